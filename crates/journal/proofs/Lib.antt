@@ -1,0 +1,4 @@
+pub mod Sorting
+pub mod Holding
+pub mod Reading
+pub mod Steps
