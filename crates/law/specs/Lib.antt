@@ -1,0 +1,14 @@
+pub mod Book
+pub mod Opening
+pub mod Messages
+pub mod Rounds
+pub mod Restarts
+pub mod Trials
+pub mod Storing
+pub mod Calls
+pub mod WorkedRuns
+pub mod Events
+pub mod Chains
+pub mod History
+pub mod Law
+pub mod Slips
