@@ -25,6 +25,7 @@ pub mod Adding
 pub mod Arrivals
 pub mod Prune
 pub mod Resume
+pub mod Collected
 pub mod Collects
 pub mod Opened
 pub mod Steps

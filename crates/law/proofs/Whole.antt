@@ -27,6 +27,8 @@ use Rattle.law.specs.Chains.{Reached}
 use Rattle.law.specs.History.{Told, tellPlaces, history, newTold}
 use Rattle.law.specs.Opening.{openBook}
 use Rattle.law.specs.Law.{Law, Restarted, Restarting, Law-of-lost-work, Among}
+use Rattle.law.specs.Trials.{collectRefusal}
+use Rattle.law.proofs.Collected.{collecting}
 use Rattle.law.proofs.Exact.{exact}
 use Rattle.law.proofs.Sound.{rows}
 use Rattle.law.proofs.Kept.{checkpoint-found, checkpoint-ways, number-back-is}
@@ -150,6 +152,8 @@ module _ (n nodes : ℕ) (says : Rule) (b : Book) (h : Told) (st : State n nodes
         alerts = st .alerts;
         restarting = restarting;
         trial = trial-right n nodes says b h st;
+        trial-leaves = λ f. refl;
+        collecting = λ v e. collecting n nodes b h st (collectRefusal b) refl _ v refl e;
         restarted = λ t places ids e. accept t places ids (b .restart) refl (resumeRefusal b t) refl e;
       }
     where

@@ -1,6 +1,7 @@
 -- The law of lost work: what every list of calls on a new federation leaves, whatever the store and the rule.
 --
 --   Law             what holds after any calls: of the messages, the table and the alerts; and of each accepted resume
+--   Collecting      what a collect drops and leaves
 --   Restarted       what holds at an accepted resume, of the history before it and after it
 --   Among           one of the elements of a list; timesIn how often the log has an id
 --   standing        the words of a standing checkpoint from the oldest kept on
@@ -8,7 +9,7 @@
 --   Restarting      what holds while a restart is open
 --   carryThenFinish the calls that carry some alerts, any that wait or not, and then finish
 --   Law-of-lost-work the law for all federations and all lists of calls
-use Prim.Native.Nat.{ℕ, _+_, _-_, _*_, _≤_}
+use Prim.Native.Nat.{ℕ, _+_, _-_, _*_, _≤_, _<_}
 use mathlib.Core.Path.{_≡_}
 use mathlib.Core.Logic.{_⊎_, _↔_}
 use mathlib.Core.Bool.{true, false, cond}
@@ -28,7 +29,8 @@ use Rattle.law.specs.Opening.{openRefusal, openBook}
 use Rattle.law.specs.Messages.{Rule, Meaning}
 use Rattle.law.specs.Restarts.{place, waits, entryAt, calledTo}
 use Rattle.law.specs.Storing.{readTells}
-use Rattle.law.specs.Calls.{Call, fault, alert, finish, resume, trial, reply, step, run, after}
+use Rattle.law.specs.Trials.{Collected}
+use Rattle.law.specs.Calls.{Call, fault, alert, finish, resume, trial, collect, reply, step, run, after}
 use Rattle.law.specs.Events.{Event, Lists, sent, got, _∈_, number, given}
 use Rattle.law.specs.Chains.{Reached}
 use Rattle.law.specs.History.{Told, newTold, tell, history}
@@ -60,6 +62,14 @@ pub record Restarting (clusters : List Cluster) (r : Restart) : Type 0 where
   -- finish has carried every alert
   pub ended : r .settled ≡ true → (i j : ℕ) → waits r i j ≡ false
 
+pub record Collecting (n : ℕ) (bounds : List ℕ) (before now : Book) : Type 0 where
+  -- no checkpoint below the bound of its cluster is left
+  pub below : (i k : ℕ) → i < n → k < getD bounds i 0 → lookup (now .store .table) i k ≡ None
+  -- nor a delivered message with a receipt number below the bound of its receiver
+  pub gone : (x : Logged) (r : ℕ) → Among x (now .log) → x .receipt ≡ Some r → getD bounds (x .message .to) 0 ≤ r
+  -- every message that is still owed stays
+  pub owed : (x : Logged) → Among x (before .log) → x .receipt ≡ None → Among x (now .log)
+
 pub record Restarted (before : Told) (places : List ℕ) (now : Told) (book : Book) : Type 0 where
   -- an event that stood at the fault is struck exactly when a chain leads to it from lost work
   pub undone : (j : ℕ) (e : Event) → e ∈ before .atFault j → ((e ∈ now .events j → ⊥) ↔ Reached (before .atFault) (before .failed) j e)
@@ -81,9 +91,13 @@ pub record Law (n nodes : ℕ) (says : Rule) (h : Told) (book : Book) : Type 0 w
   -- a restart takes no more alerts than this, each of them finds what it has to, and finish ends them
   pub alerts : h .alerts ≤ (n - 1) * (mostKept * n - 15)
   pub restarting : (r : Restart) → book .restart ≡ Some r → Restarting (book .clusters) r
-  -- a trial tells the very places to which a fault leads, whatever alerts are carried one by one before finish
+  -- a trial leaves the book as it was
+  pub trial-leaves : (f : ℕ) → step says book (trial f) ≡ book
+  -- and tells the very places to which a fault leads, whatever alerts are carried one by one before finish
   pub trial : (f place : ℕ) (t : Ticket) (places : List ℕ) (alerts : List (ℕ × ℕ)) → reply says book (trial f) ≡ Ok places → reply says book (fault f) ≡ Ok (place, t) →
       (ids : List ℕ) × (reply says (after says (fault f ∷ carryThenFinish t alerts) book) (resume t) ≡ Ok (places, ids))
+  -- what a collect drops, and what it leaves
+  pub collecting : (v : Collected) → reply says book collect ≡ Ok v → Collecting n (v .bounds) book (step says book collect)
   -- what an accepted resume does
   pub restarted : (t : Ticket) (places ids : List ℕ) → reply says book (resume t) ≡ Ok (places, ids) → Restarted h places (tell nodes h (resume t) (Ok (places, ids))) (step says book (resume t))
 
