@@ -5,12 +5,12 @@ use Rattle.moves.proofs.copy_row.Goals as goal
 
 pub unreachable-requires : goal.unreachable-requires
 unreachable-requires g c =
-    row_there (g.F.Store.model c.args.from.now).table c.args.at c.in-default.field-0 c.requires.within c.in-default.ensures
+    row_there (g.F.Store.model c.args.from.now).table c.args.at c.in_default.field-0 c.requires.within c.in_default.ensures
 
-pub unreachable-requires-in-default-read : goal.unreachable-requires-in-default-read
-unreachable-requires-in-default-read g c =
+pub unreachable-requires-in_default-read : goal.unreachable-requires-in_default-read
+unreachable-requires-in_default-read g c =
     read_there (g.F.Store.model c.args.from.now) c.requires.formed c.args.at c.requires.within c.in-Ok.key
-    c.in-Ok.ensures 32 _ c.in-default-read.field-0 (omega arith) c.in-default-read.ensures.answer
+    c.in-Ok.ensures 32 _ c.in_default-read.field-0 (omega arith) c.in_default-read.ensures.answer
 
 pub returns : goal.returns
 returns g c =

@@ -10,13 +10,13 @@ none = record { cluster = 0; number = 0; at = 0; count = 0 }
 pub loop-i-init : goal.loop-i-init
 loop-i-init c = moved_none c.args.bytes.now c.args.held.now c.requires
 
-pub overflow-mul-size : goal.overflow-mul-size
-overflow-mul-size c =
+pub overflow_mul-size : goal.overflow_mul-size
+overflow_mul-size c =
     let there = (bounds c.args.bytes.now c.args.held.now c.loop-i.i c.loop-i.bytes c.loop-i.held c.loop-i.end c.loop-i.invariant c.loop-i-test.true none).1 in
     omega arith
 
-pub overflow-add-size : goal.overflow-add-size
-overflow-add-size c =
+pub overflow_add-size : goal.overflow_add-size
+overflow_add-size c =
     let there = (bounds c.args.bytes.now c.args.held.now c.loop-i.i c.loop-i.bytes c.loop-i.held c.loop-i.end c.loop-i.invariant c.loop-i-test.true none).1 in
     omega arith
 
@@ -25,8 +25,8 @@ shift-requires c =
     let within = bounds c.args.bytes.now c.args.held.now c.loop-i.i c.loop-i.bytes c.loop-i.held c.loop-i.end c.loop-i.invariant c.loop-i-test.true none in
     record { front = within.0; there = within.1 }
 
-pub overflow-add-end : goal.overflow-add-end
-overflow-add-end c =
+pub overflow_add-end : goal.overflow_add-end
+overflow_add-end c =
     let within = bounds c.args.bytes.now c.args.held.now c.loop-i.i c.loop-i.bytes c.loop-i.held c.loop-i.end c.loop-i.invariant c.loop-i-test.true none in
     omega (arith, within.0, within.1)
 

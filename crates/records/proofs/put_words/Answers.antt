@@ -11,11 +11,11 @@ loop-word-preserved c =
     let i = c.loop-word.word-index in
     let w = get_or ws i 0 in
     let front = take c.args.at c.args.bytes.now in
-    let part : c.to-be-bytes.result ≡ be8 w = c.to-be-bytes.ensures in
+    let part : c.to_be_bytes.result ≡ be8 w = c.to_be_bytes.ensures in
     let long = ap length part in (
       omega arith,
       c.put-end.ensures.front
-          ∙ ap (λ before. before ++ c.to-be-bytes.result) c.loop-word.invariant.1
+          ∙ ap (λ before. before ++ c.to_be_bytes.result) c.loop-word.invariant.1
           ∙ ap (λ bs. (front ++ words_bytes (take i ws)) ++ bs) part
           ∙ append_assoc front (words_bytes (take i ws)) (be8 w)
           ∙ ap (λ bs. front ++ bs) (sym (words_bytes_push (take i ws) w) ∙ ap words_bytes (sym (take_more ws i 0 c.loop-word-test.true))),

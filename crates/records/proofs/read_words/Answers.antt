@@ -15,11 +15,11 @@ loop-i-preserved c =
     let ws = words_in c.args.count c.args.bytes.now in
     let i = c.loop-i.i in
     let long = length-words_in c.args.count c.args.bytes.now in
-    let value : c.word-at.result ≡ get_or ws i 0 =
-    c.word-at.ensures ∙ sym (get_or-words_in c.args.count c.args.bytes.now i (omega arith)) in
+    let value : c.word_at.result ≡ get_or ws i 0 =
+    c.word_at.ensures ∙ sym (get_or-words_in c.args.count c.args.bytes.now i (omega arith)) in
     let place : i ≡ 0 + i = omega arith in
-    ap (λ bs. set bs i c.word-at.result) c.loop-i.invariant
-    ∙ ap (λ j. set (paste b 0 ws i) j c.word-at.result) place
+    ap (λ bs. set bs i c.word_at.result) c.loop-i.invariant
+    ∙ ap (λ j. set (paste b 0 ws i) j c.word_at.result) place
     ∙ ap (λ v. set (paste b 0 ws i) (0 + i) v) value
     ∙ paste_more b 0 ws i 0 (omega arith) (omega arith)
 

@@ -15,5 +15,5 @@ returns c =
     let e5 = get_or-drop at bs 5 0 in
     let e6 = get_or-drop at bs 6 0 in
     let e7 = get_or-drop at bs 7 0 in
-    let told = c.from-be-bytes.ensures in
+    let told = c.from_be_bytes.ensures in
     omega arith

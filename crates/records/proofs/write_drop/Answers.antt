@@ -6,7 +6,7 @@ use Rattle.records.proofs.write_drop.Goals as goal
 
 pub returns : goal.returns
 returns c =
-    let number : c.to-be-bytes.result ≡ be4 c.args.number = c.to-be-bytes.ensures in
+    let number : c.to_be_bytes.result ≡ be4 c.args.number = c.to_be_bytes.ensures in
     let long = ap length number in
     record {
       end = omega arith;

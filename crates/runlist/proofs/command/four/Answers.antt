@@ -3,4 +3,4 @@ use Rattle.runlist.proofs.command.four.Goals as goal
 use Rattle.std.proofs.Common.{◌∙◌}
 
 pub returns : goal.returns
-returns c = c.from-be-bytes.ensures ∙ number_four c.args.bytes.now c.requires
+returns c = c.from_be_bytes.ensures ∙ number_four c.args.bytes.now c.requires

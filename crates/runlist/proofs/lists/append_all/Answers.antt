@@ -23,8 +23,8 @@ pub loop-command-preserved : goal.loop-command-preserved
 loop-command-preserved c =
     let w = c.loop-command.writer in (
       turn_more c.args.writer.now.buffer.now c.args.commands.now c.loop-command.command-index w.buffer.now w.len c.loop-command.invariant.0
-          c.in-default.field-0 c.append.new.self.buffer.now c.append.new.self.len (omega arith)
-          c.in-default.ensures.answer c.append.ensures.buffer c.append.ensures.len,
+          c.in_default.field-0 c.append.new.self.buffer.now c.append.new.self.len (omega arith)
+          c.in_default.ensures.answer c.append.ensures.buffer c.append.ensures.len,
       c.append.ensures.lent ∙ c.loop-command.invariant.1,
     )
 

@@ -9,18 +9,18 @@ use Rattle.runlist.proofs.Gathering.{Gathered, gathered_more, gathered_refused, 
 use Rattle.runlist.proofs.Reading.{step_of}
 use Rattle.runlist.proofs.lists.gather.Goals as goal
 
-pub returns-in-err-read : goal.returns-in-err-read
-returns-in-err-read c list e =
-    let p = err_from_is_err_and c.from-residual.result c.from-residual.ensures.1 in
-    let s = step_of c.in-err-read.was c.in-Some.ensures.steps in
-    let fact = ap (λ (r : Reading). r.ended) (sym e) ∙ gathered_refused _ _ _ _ c.in-err-read.field-0.0 c.loop-read.invariant.2 s in
+pub returns-in_err-read : goal.returns-in_err-read
+returns-in_err-read c list e =
+    let p = err_from_is_err_and c.from_residual.result c.from_residual.ensures.1 in
+    let s = step_of c.in_err-read.was c.in-Some.ensures.steps in
+    let fact = ap (λ (r : Reading). r.ended) (sym e) ∙ gathered_refused _ _ _ _ c.in_err-read.field-0.0 c.loop-read.invariant.2 s in
     rw (p.1, p.2) fact
 
 pub loop-read-preserved : goal.loop-read-preserved
 loop-read-preserved c =
-    let pushed = chosen _ _ _ _ c.push.ensures.items (ap is_ok c.in-ok-push.was) in
-    let s = step_of c.in-ok-read.was c.in-Some.ensures.steps in
-    let more = gathered_more _ _ _ (map item (vec_items c.loop-read.commands)) (place c.in-ok-read.field-0) c.loop-read.invariant.2 s in
+    let pushed = chosen _ _ _ _ c.push.ensures.items (ap is_ok c.in_ok-push.was) in
+    let s = step_of c.in_ok-read.was c.in-Some.ensures.steps in
+    let more = gathered_more _ _ _ (map item (vec_items c.loop-read.commands)) (place c.in_ok-read.field-0) c.loop-read.invariant.2 s in
     (tt, tt, subst (λ (is : List Item). Gathered (to_come c.args.reader) (to_come c.next.new.self) is) (sym (ap (map item) pushed ∙ map-append item (vec_items c.loop-read.commands) _)) more)
 
 pub returns : goal.returns

@@ -11,12 +11,12 @@ returns-then-count g c =
     let is : false ≡ agreeing a b = sym (agreeing_lengths a b (λ e. omega arith)) in
     record { value = is; meaning = agree_decides a b false c.count-count.ensures.formed.rising c.count.ensures.formed.rising is }
 
-pub returns-then-not-same-at : goal.returns-then-not-same-at
-returns-then-not-same-at g c =
+pub returns-then-not-same_at : goal.returns-then-not-same_at
+returns-then-not-same_at g c =
     let a = (g.A.Store.model c.args.a.now).table in
     let b = (g.B.Store.model c.args.b.now).table in
     let is : false ≡ agreeing a b =
-    sym (agreeing_differ a b c.loop-at.at (omega arith) (sym c.if-not-same-at.ensures)) in
+    sym (agreeing_differ a b c.loop-at.at (omega arith) (sym c.if-not-same_at.ensures)) in
     record { value = is; meaning = agree_decides a b false c.count-count.ensures.formed.rising c.count.ensures.formed.rising is }
 
 pub returns : goal.returns

@@ -8,8 +8,8 @@ returns-then-offset-end c =
     let s = step_end c.args.self.now.list.now c.args.self.now.opened c.args.self.now.at (omega arith) in
     record { first = s.gives; last = s }
 
-pub returns-then-end-gt-MOST-BYTES : goal.returns-then-end-gt-MOST-BYTES
-returns-then-end-gt-MOST-BYTES c =
+pub returns-then-end-gt-MOST_BYTES : goal.returns-then-end-gt-MOST_BYTES
+returns-then-end-gt-MOST_BYTES c =
     record {
       first = (step_long c.args.self.now.list.now c.args.self.now.opened c.args.self.now.at (omega arith) (omega arith)).gives;
       last = tt;

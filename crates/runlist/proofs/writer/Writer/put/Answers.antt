@@ -9,7 +9,7 @@ returns c =
     let buffer = c.args.self.now.buffer.now in
     let len = c.args.self.now.len in
     let i = item c.args.command in
-    let operands = c.copy-from-slice.ensures.after ∙ c.bytes-operands.ensures in
+    let operands = c.copy_from_slice.ensures.after ∙ c.bytes-operands.ensures in
     let long : length c.bytes-operands.result.now ≡ length i.operands = ap length c.bytes-operands.ensures in
     let room : len + 1 + length i.operands ≤ length buffer = omega (arith, c.requires) in
     record {
