@@ -11,13 +11,13 @@ worked_runs =
       one_refused = refl;
       nine_refused = refl;
       second_forces_on_news = refl;
-      second-forces-always = refl;
+      second_forces_always = refl;
       receiver_fails = refl;
       overtaken = refl;
       sixteen_kept = refl;
-      log-full = refl;
-      store-full = refl;
+      log_full = refl;
+      store_full = refl;
       chain_of_three = refl;
       alerts_one_by_one = refl;
-      taken-over = refl;
+      taken_over = refl;
     }

@@ -5,7 +5,7 @@ use Rattle.law.specs.declared.Message.{Message}
 use Rattle.law.specs.declared.Logged.{Logged}
 use Rattle.law.specs.Events.{Event, Lists, saved, sent, got, ◌∈◌, After, number}
 use Rattle.law.specs.Chains.{itself, later, delivered, Chain}
-use Rattle.law.specs.Slips.{Slips, told, first_message, nothing-lost, never_got}
+use Rattle.law.specs.Slips.{Slips, told, first_message, nothing_lost, never_got}
 
 -- an event of one kind is none of another
 pub unheard : (u : ℕ) (m : Message) (t s : ℕ) (ws vs : List ℕ) → got u m ∈ saved t ws ∷ saved s vs ∷ [] → ⊥
@@ -28,7 +28,7 @@ slips =
         | inl e ↦ (let f : ◌≡◌ {A = Option ℕ} None (Some 2) = ap (λ (x : Logged). x.receipt) e in let z : ◌≡◌ {A = ℕ} 0 1 = cc in omega arith)
         | inr k ↦ elim k [ ]
       ];
-      word-lost = λ law. elim (law.again 0 1 (first_message 7) (inl refl) (λ u g. unheard u (first_message 7) 2 0 (9 ∷ []) (0 ∷ []) g)).0 [
+      word_lost = λ law. elim (law.again 0 1 (first_message 7) (inl refl) (λ u g. unheard u (first_message 7) 2 0 (9 ∷ []) (0 ∷ []) g)).0 [
         | inl e ↦ (let f : ◌≡◌ {A = ℕ} 7 0 = ap (λ (x : Logged). x.message.word) e in omega arith)
         | inr k ↦ elim k [ ]
       ];
@@ -41,9 +41,9 @@ slips =
       all_to_one = λ b r. (
           let q = (r.undone 1 (saved 1 (9 ∷ [])) (inl refl)).0 (λ m. elim m [ inl e ↦ (let z : ◌≡◌ {A = ℕ} 1 0 = ap (λ (x : Event). Rattle.law.proofs.Lists.time x) e in omega arith) | inr k ↦ elim k [ ] ]) in
           let f = eqb-true q.cluster 0 q.lost.0 in
-          let a = subst (λ (i : ℕ). After (number ((told nothing-lost).at_fault i)) ((told nothing-lost).at_fault i) q.event) f q.lost.1 in
+          let a = subst (λ (i : ℕ). After (number ((told nothing_lost).at_fault i)) ((told nothing_lost).at_fault i) q.event) f q.lost.1 in
           elim a [ inl p ↦ (let le = p.1 in omega arith) | inr k ↦ elim k [ ] ]);
-      raised-row = λ b r.
+      raised_row = λ b r.
           (let q = (r.undone 1 (saved 2 (9 ∷ [])) (inl refl)).0 (λ m. elim m [ inl e ↦ (let z : ◌≡◌ {A = ℕ} 2 0 = ap (λ (x : Event). Rattle.law.proofs.Lists.time x) e in omega arith) | inr k ↦ elim k [ ] ]) in
           let f = eqb-true q.cluster 0 q.lost.0 in
           let g = begins_there (told never_got).at_fault 1 (λ u m. unheard u m 2 0 (9 ∷ []) (0 ∷ [])) q.cluster q.event 1 (saved 2 (9 ∷ [])) q.chain refl in

@@ -44,14 +44,14 @@ abbrev pub second : Ticket
 second = record { name = 0; count = 2 }
 
 -- a message forces a checkpoint and is delivered after it
-abbrev pub delivered-once : List Answered
-delivered-once =
+abbrev pub delivered_once : List Answered
+delivered_once =
     send 0 1 7 gets Ok (sent_as 1 1) ∷ arrive 1 0 gets Ok (Forced 2) ∷ answer 1 0 9 gets Ok (Committed 2 (Some 1)) ∷ []
 
 -- a message forces a checkpoint, its sender fails, and the message, undone, may not arrive any more
 abbrev pub forced_then_undone : List Answered
 forced_then_undone =
-    delivered-once
+    delivered_once
     ++ (fault 0 gets Ok (1, first)
     ∷ finish first gets Ok tt
     ∷ resume first gets Ok (1 ∷ 2 ∷ [], [])
@@ -59,8 +59,8 @@ forced_then_undone =
     ∷ [])
 
 -- two messages sent at one number, the second arriving first: what the first gets is the rule's
-abbrev pub second-forces : Reply (arrive 1 0) → List Answered
-second-forces r =
+abbrev pub second_forces : Reply (arrive 1 0) → List Answered
+second_forces r =
     send 0 1 7 gets Ok (sent_as 1 1)
     ∷ send 0 1 8 gets Ok (sent_as 2 1)
     ∷ arrive 2 0 gets Ok (Forced 2)
@@ -71,7 +71,7 @@ second-forces r =
 -- the receiver fails after a delivery at its newest checkpoint: the message goes again
 abbrev pub receiver_fails : List Answered
 receiver_fails =
-    delivered-once
+    delivered_once
     ++ (fault 1 gets Ok (2, first)
     ∷ finish first gets Ok tt
     ∷ resume first gets Ok (0 ∷ 2 ∷ [], 1 ∷ [])
@@ -115,8 +115,8 @@ abbrev pub refusals : List Answered → List (Option Refusal)
 refusals = map (λ a. why_refused a.reply)
 
 -- the log takes 128 messages and no more: of 129 sends only the last is refused
-abbrev pub log-full : Type 0
-log-full =
+abbrev pub log_full : Type 0
+log_full =
     refusals (run on_news (replicate 129 (send 0 1 7)) (opened 2)) ≡ replicate 128 None ++ (Some refuses.LogFull ∷ [])
 
 abbrev pub checkpoints_each : ℕ → List Answered
@@ -124,8 +124,8 @@ checkpoints_each zero = []
 checkpoints_each (suc i) = checkpoints i 7 2 ++ checkpoints_each i
 
 -- eight checkpoints of eight clusters fill a store of 64 rows: one row more is refused, and the round stays open
-abbrev pub store-full : List Answered
-store-full =
+abbrev pub store_full : List Answered
+store_full =
     checkpoints_each 8
     ++ (request 3 0 gets Ok 0
     ∷ answer 3 0 7 gets Err (refuses.Store (store_refuses.Full 0))
@@ -135,14 +135,14 @@ store-full =
 -- cluster 0 sends to 1, which then sends to 2, and cluster 0 fails
 abbrev pub chain_of_three : List Answered
 chain_of_three =
-    delivered-once
+    delivered_once
     ++ (send 1 2 8 gets Ok (sent_as 2 2) ∷ arrive 2 0 gets Ok (Forced 2) ∷ answer 2 0 6 gets Ok (Committed 2 (Some 2))
     ∷ fault 0 gets Ok (1, first) ∷ finish first gets Ok tt ∷ [])
 
 -- alerts carried one by one, on the right ticket and on others; a trial before, a resume after
 abbrev pub alerts_one_by_one : List Answered
 alerts_one_by_one =
-    delivered-once
+    delivered_once
     ++ (trial 0 gets Ok (1 ∷ 2 ∷ 0 ∷ [])
     ∷ trial 1 gets Ok (0 ∷ 2 ∷ 0 ∷ [])
     ∷ collect gets Ok (record { bounds = 1 ∷ 2 ∷ 1 ∷ []; checkpoints = 1; messages = 0 })
@@ -161,8 +161,8 @@ alerts_one_by_one =
     ∷ [])
 
 -- a lower rank takes a round of two nodes over: both have to answer again
-abbrev pub taken-over : List Answered
-taken-over =
+abbrev pub taken_over : List Answered
+taken_over =
     request 0 1 gets Ok 1
     ∷ answer 0 0 5 gets Ok (Missing 1)
     ∷ answer 0 0 5 gets Err refuses.Answered
@@ -180,14 +180,14 @@ pub record WorkedRuns : Type 0 where
   pub eight_open : open_refusal 8 1 slots ≡ None
   pub one_refused : open_refusal 1 1 slots ≡ Some refuses.BadOpen
   pub nine_refused : open_refusal 9 1 slots ≡ Some refuses.BadOpen
-  pub second_forces_on_news : Answers on_news (opened 2) (second-forces (Ok (Delivered 2)))
-  pub second-forces-always : Answers always (opened 2) (second-forces (Ok (Forced 3)))
+  pub second_forces_on_news : Answers on_news (opened 2) (second_forces (Ok (Delivered 2)))
+  pub second_forces_always : Answers always (opened 2) (second_forces (Ok (Forced 3)))
   pub receiver_fails : Answers on_news (opened 2) receiver_fails
   pub overtaken : Answers on_news (opened 2) overtaken
   pub sixteen_kept : Answers on_news (opened 2) sixteen_kept
-  pub log-full : log-full
-  pub store-full : Answers on_news (opened 8) store-full
+  pub log_full : log_full
+  pub store_full : Answers on_news (opened 8) store_full
   -- and three more
   pub chain_of_three : Answers on_news (opened 3) (chain_of_three ++ (resume first gets Ok (1 ∷ 2 ∷ 2 ∷ [], []) ∷ []))
   pub alerts_one_by_one : Answers on_news (opened 3) alerts_one_by_one
-  pub taken-over : Answers on_news (open_book 0 2 2 slots) taken-over
+  pub taken_over : Answers on_news (open_book 0 2 2 slots) taken_over

@@ -11,20 +11,20 @@ commit-requires c =
     let b = c.args.self.now in
     let len = b.clusters.ok.0 in
     let few = (is_sound_lem b c.requires.sound).few in
-    let it = c.index-mut.result.now in
+    let it = c.index_mut.result.now in
     record {
       within = omega arith;
-      sound = cluster-sound b c.args.i it c.requires.sound c.requires.within c.index-mut.ensures.value;
-      opened = subst (λ (g : Group). is_some g.round ≡ true) (sym (group_at (vec_items b.clusters) c.args.i it (omega arith) c.index-mut.ensures.value)) c.requires.opened;
+      sound = cluster-sound b c.args.i it c.requires.sound c.requires.within c.index_mut.ensures.value;
+      opened = subst (λ (g : Group). is_some g.round ≡ true) (sym (group_at (vec_items b.clusters) c.args.i it (omega arith) c.index_mut.ensures.value)) c.requires.opened;
     }
 
 pub returns : goal.returns
 returns c =
     let b = c.args.self.now in
     let len = b.clusters.ok.0 in
-    let it = c.index-mut.result.now in
+    let it = c.index_mut.result.now in
     let new = c.commit.new.self in
     record {
-      after = λ m. ap (with_clusters (view b m)) (group-set (vec_items b.clusters) c.args.i it new (saved c.args.i) (omega arith) c.index-mut.ensures.value c.commit.ensures.after);
+      after = λ m. ap (with_clusters (view b m)) (group-set (vec_items b.clusters) c.args.i it new (saved c.args.i) (omega arith) c.index_mut.ensures.value c.commit.ensures.after);
       sound = sound_with b _ c.args.i new c.requires.sound refl refl refl refl refl c.commit.ensures.sound;
     }

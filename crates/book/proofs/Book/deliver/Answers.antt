@@ -20,8 +20,8 @@ index-requires-2 c =
     let to = (two_of c.args.self.now c.args.place c.index.result.now c.requires.sound c.requires.within c.index.ensures).to in
     omega arith
 
-pub offset-bounds-index-to : goal.offset-bounds-index-to
-offset-bounds-index-to c =
+pub offset_bounds-index-to : goal.offset_bounds-index-to
+offset_bounds-index-to c =
     let to = (two_of c.args.self.now c.args.place c.index.result.now c.requires.sound c.requires.within c.index.ensures).to in
     let few = (is_sound_lem c.args.self.now c.requires.sound).few in
     omega arith

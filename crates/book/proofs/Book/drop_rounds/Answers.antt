@@ -11,18 +11,18 @@ loop-i-preserved c =
     let b = c.args.self.now in
     let i = c.loop-i.i in
     let now = c.loop-i.self in
-    let new = c.set-round.new.self in
+    let new = c.set_round.new.self in
     let any : Model = record { table = []; capacity = 0; full = 0 } in
     let G = groups b in
     let within : i < length G = let l = shown_len b any in let t = c.loop-i.invariant.1 in omega arith in
     let same_len : length (view new any).clusters ≡ length (view now any).clusters =
-    ap (λ (x : Shown). length x.clusters) (c.set-round.ensures.after any) ∙ length-set (view now any).clusters i _ in
+    ap (λ (x : Shown). length x.clusters) (c.set_round.ensures.after any) ∙ length-set (view now any).clusters i _ in
     let l = shown_len new any in
     let k = shown_len now any in
     let inv-len = c.loop-i.invariant.1 in (
-      c.set-round.ensures.sound,
+      c.set_round.ensures.sound,
       omega arith,
-      λ m. c.set-round.ensures.after m
+      λ m. c.set_round.ensures.after m
           ∙ ap (λ (x : Shown). with_cluster x i (with_round (at x i) None)) (c.loop-i.invariant.2 m)
           ∙ ap (with_clusters (view b m)) (dropped_more G i within)
           ∙ ap (λ (z : ℕ). with_clusters (view b m) (dropped z G)) (sym (add-one i)),

@@ -16,8 +16,8 @@ index-requires c =
     let two = is_between_lem (vec_len c.args.self.now.clusters) c.args.from c.args.to c.requires.addressed in
     omega (arith, two.from)
 
-pub offset-bounds-index-i : goal.offset-bounds-index-i
-offset-bounds-index-i c =
+pub offset_bounds-index-i : goal.offset_bounds-index-i
+offset_bounds-index-i c =
     let two = is_between_lem (vec_len c.args.self.now.clusters) c.args.from c.args.to c.requires.addressed in
     let few = (is_sound_lem c.args.self.now c.requires.sound).few in
     omega (arith, two.from)
@@ -28,8 +28,8 @@ bounds-index-i c =
     let few = (is_sound_lem c.args.self.now c.requires.sound).few in
     omega (arith, two.from)
 
-pub push-reserved-requires : goal.push-reserved-requires
-push-reserved-requires c = let s = is_sound_lem c.args.self.now c.requires.sound in let free = c.requires.free in omega (arith, s.room)
+pub push_reserved-requires : goal.push_reserved-requires
+push_reserved-requires c = let s = is_sound_lem c.args.self.now c.requires.sound in let free = c.requires.free in omega (arith, s.room)
 
 pub returns : goal.returns
 returns c =
@@ -46,10 +46,10 @@ returns c =
     let i-is : c.from-i.result ≡ from = c.from-i.ensures in
     let n = entry c.index.result.now.row c.from-i.result in
     let new : Logged = undelivered next from to word n in
-    let items : vec_items c.push-reserved.new.self ≡ log ++ (new ∷ []) = c.push-reserved.ensures.items in
+    let items : vec_items c.push_reserved.new.self ≡ log ++ (new ∷ []) = c.push_reserved.ensures.items in
     let n-is = ap (λ (g : Group). entry g.row c.from-i.result) (group_at (vec_items b.clusters) c.from-i.result c.index.result.now (omega arith) c.index.ensures) in
-    let plen = c.push-reserved.ensures.len in
-    let cap = c.push-reserved.ensures.capacity in
+    let plen = c.push_reserved.ensures.len in
+    let cap = c.push_reserved.ensures.capacity in
     let room = s.room in
     let free = c.requires.free in
     record {

@@ -13,10 +13,10 @@ use Rattle.book.proofs.Book.new.Goals as goal
 
 pub returns : goal.returns
 returns c =
-    let cs = c.in-ok-new-clusters.field-0 in
-    let made = c.in-ok-new-clusters.ensures in
-    let log = c.in-ok-with-capacity.field-0 in
-    let room = c.in-ok-with-capacity.ensures in
+    let cs = c.in_ok-new_clusters.field-0 in
+    let made = c.in_ok-new_clusters.ensures in
+    let log = c.in_ok-with_capacity.field-0 in
+    let room = c.in_ok-with_capacity.ensures in
     let none = room.items in
     let ok = cs.ok.0 in
     let count = first_count c.args.clusters in

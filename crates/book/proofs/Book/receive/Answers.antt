@@ -19,9 +19,9 @@ returns c =
     let n = c.args.number in
     let s = is_sound_lem b c.requires.sound in
     let len = b.log.ok.0 in
-    let it = c.index-mut.result.now in
+    let it = c.index_mut.result.now in
     let within : place < length log = omega arith in
-    let read : it ≡ get_or log place no_logged = get_or_read log place it within c.index-mut.ensures.value no_logged in
+    let read : it ≡ get_or log place no_logged = get_or_read log place it within c.index_mut.ensures.value no_logged in
     let new : Logged = record { message = it.message; receipt = Some n } in
     let f = received (message_at log place).id n in
     let same = receive_same (message_at log place).id n in

@@ -6,24 +6,24 @@ use Rattle.book.proofs.Groups.{group_at, group-set}
 use Rattle.book.proofs.Soundness.{cluster-sound, sound_with}
 use Rattle.book.proofs.Book.set_round.Goals as goal
 
-pub set-round-requires : goal.set-round-requires
-set-round-requires c =
+pub set_round-requires : goal.set_round-requires
+set_round-requires c =
     let b = c.args.self.now in
     let len = b.clusters.ok.0 in
-    let it = c.index-mut.result.now in
+    let it = c.index_mut.result.now in
     record {
-      sound = cluster-sound b c.args.i it c.requires.sound c.requires.within c.index-mut.ensures.value;
+      sound = cluster-sound b c.args.i it c.requires.sound c.requires.within c.index_mut.ensures.value;
       ends = subst (λ (g : Group). can_end (is_some c.args.round) (length g.kept) (entry g.row c.args.i) ≡ true)
-          (sym (group_at (vec_items b.clusters) c.args.i it (omega arith) c.index-mut.ensures.value)) c.requires.ends;
+          (sym (group_at (vec_items b.clusters) c.args.i it (omega arith) c.index_mut.ensures.value)) c.requires.ends;
     }
 
 pub returns : goal.returns
 returns c =
     let b = c.args.self.now in
     let len = b.clusters.ok.0 in
-    let it = c.index-mut.result.now in
-    let new = c.set-round.new.self in
+    let it = c.index_mut.result.now in
+    let new = c.set_round.new.self in
     record {
-      after = λ m. ap (with_clusters (view b m)) (group-set (vec_items b.clusters) c.args.i it new (λ g. with_round g c.args.round) (omega arith) c.index-mut.ensures.value c.set-round.ensures.after);
-      sound = sound_with b _ c.args.i new c.requires.sound refl refl refl refl refl c.set-round.ensures.sound;
+      after = λ m. ap (with_clusters (view b m)) (group-set (vec_items b.clusters) c.args.i it new (λ g. with_round g c.args.round) (omega arith) c.index_mut.ensures.value c.set_round.ensures.after);
+      sound = sound_with b _ c.args.i new c.requires.sound refl refl refl refl refl c.set_round.ensures.sound;
     }

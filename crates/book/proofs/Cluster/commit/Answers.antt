@@ -16,14 +16,14 @@ use Rattle.book.proofs.Cluster.commit.Goals as goal
 abbrev shows : List ℕ → List Checkpoint → Group
 shows row ks = record { row = row; kept = ks; round = None }
 
-pub overflow-add-number : goal.overflow-add-number
-overflow-add-number c =
+pub overflow_add-number : goal.overflow_add-number
+overflow_add-number c =
     let s = cluster_is_sound c.args.own c.args.self.now c.requires.sound in
     let e = can_end_lem (is_some c.args.self.now.round) _ _ c.requires.opened s.ends in
     omega (arith, e.1)
 
-pub push-reserved-requires : goal.push-reserved-requires
-push-reserved-requires c =
+pub push_reserved-requires : goal.push_reserved-requires
+push_reserved-requires c =
     let s = cluster_is_sound c.args.own c.args.self.now c.requires.sound in
     let e = can_end_lem (is_some c.args.self.now.round) _ _ c.requires.opened s.ends in
     omega (arith, e.0, s.room)
@@ -38,13 +38,13 @@ returns c =
     let row : List ℕ = set was.row own (n + 1) in
     let new : Checkpoint = record { number = n + 1; row = row } in
     let own-entry : entry row own ≡ n + 1 = get_or-set_same was.row own (n + 1) 0 (search rules) in
-    let items : vec_items c.push-reserved.new.self ≡ vec_items was.kept ++ (new ∷ []) = c.push-reserved.ensures.items in
-    let len = c.push-reserved.ensures.len in
-    let cap = c.push-reserved.ensures.capacity in
+    let items : vec_items c.push_reserved.new.self ≡ vec_items was.kept ++ (new ∷ []) = c.push_reserved.ensures.items in
+    let len = c.push_reserved.ensures.len in
+    let cap = c.push_reserved.ensures.capacity in
     let room = s.room in
     record {
       after = ap (λ (ks : List Checkpoint). shows row ks) items ∙ ap (λ (k : ℕ). shows (set was.row own k) (vec_items was.kept ++ (record { number = k; row = set was.row own k } ∷ []))) (add-one n);
-      sound = sound-cluster own (record { row = row; kept = c.push-reserved.new.self; round = None })
+      sound = sound-cluster own (record { row = row; kept = c.push_reserved.new.self; round = None })
           (record {
             room = omega arith;
             few = omega arith;

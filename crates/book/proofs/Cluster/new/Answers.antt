@@ -16,15 +16,15 @@ returns c =
     let row = first_row own in
     let new : Checkpoint = record { number = 1; row = row } in
     let own-entry : entry row own ≡ 1 = get_or-set_same (replicate 8 0) own 1 0 c.requires in
-    let made = c.in-ok-kept.ensures in
-    let items : vec_items c.push-reserved.new.self ≡ new ∷ [] = c.push-reserved.ensures.items ∙ ap (λ (ks : List Checkpoint). ks ++ (new ∷ [])) made.items in
-    let len = c.push-reserved.ensures.len in
+    let made = c.in_ok-kept.ensures in
+    let items : vec_items c.push_reserved.new.self ≡ new ∷ [] = c.push_reserved.ensures.items ∙ ap (λ (ks : List Checkpoint). ks ++ (new ∷ [])) made.items in
+    let len = c.push_reserved.ensures.len in
     let empty = made.len in
     let room = made.capacity in
-    let cap = c.push-reserved.ensures.capacity in
+    let cap = c.push_reserved.ensures.capacity in
     let tops : topped own (entry row own) (new ∷ []) ≡ true = both_is _ _ (both_is _ _ (eq-eqb _ _ own-entry) (le-leb 1 (entry row own) (omega arith))) refl in (
       ap (λ (ks : List Checkpoint). shows ks) items,
-      sound-cluster own (record { row = row; kept = c.push-reserved.new.self; round = None })
+      sound-cluster own (record { row = row; kept = c.push_reserved.new.self; round = None })
           (record {
             room = omega arith;
             few = omega arith;

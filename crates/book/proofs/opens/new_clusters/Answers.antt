@@ -16,10 +16,10 @@ loop-i-init c =
 
 pub loop-i-preserved : goal.loop-i-preserved
 loop-i-preserved c =
-    let new = c.in-ok-new.field-0 in
-    let made = c.in-ok-new.ensures in
-    let items = c.in-ok-push.ensures.items in
-    let len = c.in-ok-push.ensures.len in
+    let new = c.in_ok-new.field-0 in
+    let made = c.in_ok-new.ensures in
+    let items = c.in_ok-push.ensures.items in
+    let len = c.in_ok-push.ensures.len in
     let before = c.loop-i.invariant.0 in
     let old = vec_items c.loop-i.clusters in
     let ok = c.loop-i.clusters.ok.0 in (

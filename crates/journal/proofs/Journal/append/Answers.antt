@@ -7,14 +7,14 @@ use Rattle.journal.specs.State.{journal_model}
 use Rattle.journal.proofs.Steps.{append_step, held_rows, index_count}
 use Rattle.journal.proofs.Journal.append.Goals as goal
 
-pub push-reserved-requires : goal.push-reserved-requires
-push-reserved-requires c =
+pub push_reserved-requires : goal.push_reserved-requires
+push_reserved-requires c =
     let j = c.args.self.now in
     let may = allowed (journal_model j) c.args.cluster c.args.number c.args.words.now c.requires.free in
     omega (arith, may.room, held_rows j, c.requires.sound.held_room)
 
-pub insert-ordered-requires : goal.insert-ordered-requires
-insert-ordered-requires c =
+pub insert_ordered-requires : goal.insert_ordered-requires
+insert_ordered-requires c =
     let j = c.args.self.now in
     let may = allowed (journal_model j) c.args.cluster c.args.number c.args.words.now c.requires.free in
     omega (arith, may.room, held_rows j, index_count j c.requires.sound, c.requires.sound.index_room)
@@ -23,13 +23,13 @@ pub returns : goal.returns
 returns c =
     let j = c.args.self.now in
     let t : Journal = record {
-      bytes = set_vals c.write-keep.new.bytes j.bytes;
-      used = c.write-keep.result;
-      held = c.push-reserved.new.self;
-      index = c.insert-ordered.new.index;
+      bytes = set_vals c.write_keep.new.bytes j.bytes;
+      used = c.write_keep.result;
+      held = c.push_reserved.new.self;
+      index = c.insert_ordered.new.index;
     } in
-    let front = c.write-keep.ensures.front in
+    let front = c.write_keep.ensures.front in
     let step = append_step j t c.args.cluster c.args.number c.args.words.now c.requires.sound c.requires.free
-    c.write-keep.auto.bytes c.write-keep.ensures.end c.requires.room front c.write-keep.ensures.reads
-    c.push-reserved.ensures.items (omega (arith, c.push-reserved.ensures.capacity)) c.insert-ordered.ensures.rows c.insert-ordered.ensures.capacity in
+    c.write_keep.auto.bytes c.write_keep.ensures.end c.requires.room front c.write_keep.ensures.reads
+    c.push_reserved.ensures.items (omega (arith, c.push_reserved.ensures.capacity)) c.insert_ordered.ensures.rows c.insert_ordered.ensures.capacity in
     record { records = front; rows = step.0; sound = step.1 }

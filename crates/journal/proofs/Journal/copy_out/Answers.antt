@@ -33,6 +33,6 @@ returns c =
     let there = words_there bytes c.args.self.now.used h.at h.count _ c.requires.within (omega arith) (omega arith) in
     record {
       answer = ap Ok (sym long) ∙ sym (ap (λ (why : Option StoreRefusal). told why (length ws)) fits);
-      buffer = c.read-words.ensures ∙ ap (λ (bs : List ℕ). over (words_in h.count bs) b) there
+      buffer = c.read_words.ensures ∙ ap (λ (bs : List ℕ). over (words_in h.count bs) b) there
           ∙ sym (ap (λ (why : Option StoreRefusal). unless why b (over ws b)) fits);
     }

@@ -11,14 +11,14 @@ pub index-requires : goal.index-requires
 index-requires c =
     let j = c.args.self.now in
     let len = j.held.ok.0 in
-    let there = first_in (records_of j) (vec_items j.held) c.as-slice.result.now c.args.cluster c.args.number (Some c.in-Some.i) c.as-slice.ensures.value c.in-Some.ensures in
+    let there = first_in (records_of j) (vec_items j.held) c.as_slice.result.now c.args.cluster c.args.number (Some c.in-Some.i) c.as_slice.ensures.value c.in-Some.ensures in
     omega (arith, there.0)
 
 pub returns-in-Some : goal.returns-in-Some
 returns-in-Some c =
     let j = c.args.self.now in
     let h = c.index.result.now in
-    let there = first_in (records_of j) (vec_items j.held) c.as-slice.result.now c.args.cluster c.args.number (Some c.in-Some.i) c.as-slice.ensures.value c.in-Some.ensures in
+    let there = first_in (records_of j) (vec_items j.held) c.as_slice.result.now c.args.cluster c.args.number (Some c.in-Some.i) c.as_slice.ensures.value c.in-Some.ensures in
     let is = c.index.ensures in
     record {
       held = lookup_sort (rows_of j) c.requires.distinct c.args.cluster c.args.number ∙ there.1 h
@@ -32,6 +32,6 @@ returns-in-None c =
     let j = c.args.self.now in
     record {
       held = lookup_sort (rows_of j) c.requires.distinct c.args.cluster c.args.number
-          ∙ first_in (records_of j) (vec_items j.held) c.as-slice.result.now c.args.cluster c.args.number None c.as-slice.ensures.value c.in-None.ensures;
+          ∙ first_in (records_of j) (vec_items j.held) c.as_slice.result.now c.args.cluster c.args.number None c.as_slice.ensures.value c.in-None.ensures;
       within = tt;
     }

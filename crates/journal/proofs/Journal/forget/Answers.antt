@@ -17,22 +17,22 @@ none = record { cluster = 0; number = 0; at = 0; count = 0 }
 pub remove-requires : goal.remove-requires
 remove-requires c =
     let j = c.args.self.now in
-    let there = first_in (records_of j) (vec_items j.held) c.as-slice.result.now c.args.cluster c.args.number (Some c.in-Some.i) c.as-slice.ensures.value c.in-Some.ensures in
+    let there = first_in (records_of j) (vec_items j.held) c.as_slice.result.now c.args.cluster c.args.number (Some c.in-Some.i) c.as_slice.ensures.value c.in-Some.ensures in
     omega (arith, there.0, j.held.ok.0)
 
 pub reindex-requires : goal.reindex-requires
 reindex-requires c =
     let j = c.args.self.now in
-    omega (arith, held_count j c.requires, c.requires.index_room, c.remove.ensures.len, c.as-slice-in-Some.ensures.len)
+    omega (arith, held_count j c.requires, c.requires.index_room, c.remove.ensures.len, c.as_slice-in-Some.ensures.len)
 
 pub returns-in-Some : goal.returns-in-Some
 returns-in-Some c =
     let j = c.args.self.now in
     let t : Journal = record { bytes = j.bytes; used = j.used; held = c.remove.new.self; index = c.reindex.new.index } in
-    let there = first_in (records_of j) (vec_items j.held) c.as-slice.result.now c.args.cluster c.args.number (Some c.in-Some.i) c.as-slice.ensures.value c.in-Some.ensures in
+    let there = first_in (records_of j) (vec_items j.held) c.as_slice.result.now c.args.cluster c.args.number (Some c.in-Some.i) c.as_slice.ensures.value c.in-Some.ensures in
     let step = forget_step j t c.args.cluster c.args.number c.in-Some.i c.requires there.0 there.2 refl refl
     c.remove.ensures.items (omega (arith, c.requires.held_room, c.remove.ensures.capacity)) (omega (arith, c.requires.index_room, c.reindex.ensures.capacity))
-    (λ xs. c.reindex.ensures.rows xs ∙ ap (λ (hs : List Held). sort_rows (map (row_in xs) hs)) c.as-slice-in-Some.ensures.value) in
+    (λ xs. c.reindex.ensures.rows xs ∙ ap (λ (hs : List Held). sort_rows (map (row_in xs) hs)) c.as_slice-in-Some.ensures.value) in
     record {
       held = sym (ap is_some (lookup_sort (rows_of j) c.requires.distinct c.args.cluster c.args.number ∙ there.1 none));
       records = step.0;
@@ -43,7 +43,7 @@ returns-in-Some c =
 pub returns-in-None : goal.returns-in-None
 returns-in-None c =
     let j = c.args.self.now in
-    let gone = first_in (records_of j) (vec_items j.held) c.as-slice.result.now c.args.cluster c.args.number None c.as-slice.ensures.value c.in-None.ensures in
+    let gone = first_in (records_of j) (vec_items j.held) c.as_slice.result.now c.args.cluster c.args.number None c.as_slice.ensures.value c.in-None.ensures in
     record {
       held = sym (ap is_some (lookup_sort (rows_of j) c.requires.distinct c.args.cluster c.args.number ∙ gone));
       records = refl;

@@ -12,7 +12,7 @@ use Rattle.journal.proofs.Journal.key_at.Goals as goal
 pub returns : goal.returns
 returns c =
     let j = c.args.self.now in
-    c.key-at.ensures
-    ∙ ap (λ (xs : List Held). key_at held_key xs c.args.at) c.as-slice.ensures.value
+    c.key_at.ensures
+    ∙ ap (λ (xs : List Held). key_at held_key xs c.args.at) c.as_slice.ensures.value
     ∙ key_map (row_in (records_of j)) (vec_items j.index) c.args.at
     ∙ ap (λ (rows : List TableRow). row_at rows c.args.at) (c.requires.shown (records_of j))

@@ -10,13 +10,13 @@ pub returns : goal.returns
 returns c =
     let j = c.args.self.now in
     let t : Journal = record {
-      bytes = set_vals c.write-drop-self.new.bytes j.bytes;
-      used = c.write-drop-self.result;
+      bytes = set_vals c.write_drop-self.new.bytes j.bytes;
+      used = c.write_drop-self.result;
       held = j.held;
       index = j.index;
     } in
-    let front = c.write-drop-self.ensures.front in
-    let end = c.write-drop-self.ensures.end in
-    let step = note_step j t (drop_bytes c.args.cluster c.args.number) c.requires.sound c.write-drop-self.auto.bytes end
+    let front = c.write_drop-self.ensures.front in
+    let end = c.write_drop-self.ensures.end in
+    let step = note_step j t (drop_bytes c.args.cluster c.args.number) c.requires.sound c.write_drop-self.auto.bytes end
     (omega (arith, c.requires.room)) front refl refl in
     record { records = front; rows = step.0; sound = step.1 }

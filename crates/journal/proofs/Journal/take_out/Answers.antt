@@ -22,16 +22,16 @@ pub returns-then-fits : goal.returns-then-fits
 returns-then-fits c =
     let j = c.args.self.now in
     let q = c.forget.new.self in
-    let t = c.note-drop.new.self in
+    let t = c.note_drop.new.self in
     let told = c.if-not-forget.ensures in
-    let rows : rows_of t ≡ remove (rows_of j) c.args.cluster c.args.number = c.note-drop.ensures.rows ∙ told.rows in
+    let rows : rows_of t ≡ remove (rows_of j) c.args.cluster c.args.number = c.note_drop.ensures.rows ∙ told.rows in
     record {
       held = told.held;
       after = dropped_model j t c.args.cluster c.args.number c.requires rows;
-      records = c.note-drop.ensures.records ∙ ap (λ (bs : List ℕ). bs ++ drop_bytes c.args.cluster c.args.number) told.records
+      records = c.note_drop.ensures.records ∙ ap (λ (bs : List ℕ). bs ++ drop_bytes c.args.cluster c.args.number) told.records
           ∙ sym (cond-true _ _ _ (drop_fits j q told.sound told.records ∙ sym c.if-fits.ensures));
       rows = rows;
-      sound = c.note-drop.ensures.sound;
+      sound = c.note_drop.ensures.sound;
     }
 
 pub returns-else-fits : goal.returns-else-fits
