@@ -3,7 +3,7 @@ use Rattle.std.proofs.lemmas.List.{at_drop_more, at_drop_all}
 use Rattle.std.proofs.lemmas.Bool.{true≢false}
 use Rattle.law.specs.Rounds.{missing as lacking}
 use Rattle.federation.proofs.answers.missing.Goals as goal
-use Rattle.federation.proofs.answers.missing.Goals.{then-is-none, else-is-none}
+use Rattle.federation.proofs.answers.missing.Goals.{then-is_none, else-is_none}
 
 none_more : (o : Option ℕ) (xs : List (Option ℕ)) → is_some o ≡ false → lacking (o ∷ xs) ≡ suc (lacking xs)
 none_more (Some w) xs e = absurd (true≢false e)
@@ -19,9 +19,9 @@ loop-answer-preserved c =
     let i = c.loop-answer.answer-index in
     let step = at_drop_more lacking xs i None c.loop-answer-test.true in
     let inv = c.loop-answer.invariant in
-    elim c.if-is-none.branch [
-      | then-is-none w ↦ (let n = none_more (get_or xs i None) (drop (i + 1) xs) w.if-is-none.ensures in let k = w.count-is in (omega arith, omega arith))
-      | else-is-none w ↦ (let n = some_same (get_or xs i None) (drop (i + 1) xs) w.if-is-none.ensures in let k = w.count-is in (omega arith, omega arith))
+    elim c.if-is_none.branch [
+      | then-is_none w ↦ (let n = none_more (get_or xs i None) (drop (i + 1) xs) w.if-is_none.ensures in let k = w.count-is in (omega arith, omega arith))
+      | else-is_none w ↦ (let n = some_same (get_or xs i None) (drop (i + 1) xs) w.if-is_none.ensures in let k = w.count-is in (omega arith, omega arith))
     ]
 
 pub returns : goal.returns

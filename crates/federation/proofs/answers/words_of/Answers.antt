@@ -16,7 +16,7 @@ loop-i-preserved c =
     let full = c.told-answers in (
       length-set ws i _ ∙ long,
       take_more_set ws i _ (omega arith)
-          ∙ ap₂ (λ (front : List ℕ) (w : ℕ). front ++ (w ∷ [])) c.loop-i.invariant.1 (c.unwrap-or.ensures ∙ value_zero (get_or xs i None))
+          ∙ ap₂ (λ (front : List ℕ) (w : ℕ). front ++ (w ∷ [])) c.loop-i.invariant.1 (c.unwrap_or.ensures ∙ value_zero (get_or xs i None))
           ∙ sym (map_more or_zero xs i None (omega arith)),
     )
 

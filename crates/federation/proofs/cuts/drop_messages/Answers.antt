@@ -8,17 +8,17 @@ use Rattle.pruning.proofs.LogStays.{log_from_short}
 use Rattle.federation.proofs.Cutting.{sound-left, from_left}
 use Rattle.federation.proofs.cuts.drop_messages.Goals as goal
 
-pub overflow-sub-result : goal.overflow-sub-result
-overflow-sub-result c =
+pub overflow_sub-result : goal.overflow_sub-result
+overflow_sub-result c =
     let b = c.args.book.now in
     let len = b.log.ok.0 in
-    let left = c.log-from.new.log.ok.0 in
+    let left = c.log_from.new.log.ok.0 in
     let fewer = log_from_short c.args.bounds.now (vec_items b.log) in
-    let many = ap length c.log-from.ensures.items in
+    let many = ap length c.log_from.ensures.items in
     omega arith
 
-pub overflow-cast-result : goal.overflow-cast-result
-overflow-cast-result c =
+pub overflow_cast-result : goal.overflow_cast-result
+overflow_cast-result c =
     let short = (is_sound_lem c.args.book.now c.requires).short in
     omega arith
 
@@ -27,7 +27,7 @@ returns c =
     let b = c.args.book.now in
     let bs = c.args.bounds.now in
     record {
-      value = let len = b.log.ok.0 in let left = c.log-from.new.log.ok.0 in omega arith;
-      after = λ m. ap (λ (ms : List Logged). with_log (view b m) ms) c.log-from.ensures.items;
-      sound = sound-left b _ _ c.requires refl refl refl c.log-from.ensures.capacity c.log-from.ensures.items (from_left bs (vec_items b.log));
+      value = let len = b.log.ok.0 in let left = c.log_from.new.log.ok.0 in omega arith;
+      after = λ m. ap (λ (ms : List Logged). with_log (view b m) ms) c.log_from.ensures.items;
+      sound = sound-left b _ _ c.requires refl refl refl c.log_from.ensures.capacity c.log_from.ensures.items (from_left bs (vec_items b.log));
     }

@@ -10,22 +10,22 @@ use Rattle.federation.proofs.cuts.drop_spent.Goals as goal
 pub returns : goal.returns
 returns g c =
     let b = c.args.book.now in
-    let same-book : Book = c.lowest-bounds-lowest.new.book in
-    let mid : Book = c.drop-checkpoints-checkpoints.new.book in
-    let out : Book = c.drop-messages-messages.new.book in
+    let same-book : Book = c.lowest_bounds-lowest.new.book in
+    let mid : Book = c.drop_checkpoints-checkpoints.new.book in
+    let out : Book = c.drop_messages-messages.new.book in
     let m = g.S.Store.model c.args.store.now in
-    let m' = g.S.Store.model c.drop-checkpoints-checkpoints.new.store in
-    let bs : List ℕ = c.lowest-bounds-lowest.result in
-    let is : same-book ≡ b = c.lowest-bounds-lowest.ensures.same in
-    let least : bs ≡ bounds (view same-book m) = c.lowest-bounds-lowest.ensures.value ∙ ap (λ (x : Book). bounds (view x m)) (sym is) in
-    let cut = c.drop-checkpoints-checkpoints.ensures in
-    let left = c.drop-messages-messages.ensures in
+    let m' = g.S.Store.model c.drop_checkpoints-checkpoints.new.store in
+    let bs : List ℕ = c.lowest_bounds-lowest.result in
+    let is : same-book ≡ b = c.lowest_bounds-lowest.ensures.same in
+    let least : bs ≡ bounds (view same-book m) = c.lowest_bounds-lowest.ensures.value ∙ ap (λ (x : Book). bounds (view x m)) (sym is) in
+    let cut = c.drop_checkpoints-checkpoints.ensures in
+    let left = c.drop_messages-messages.ensures in
     record {
-      answer = ap (λ (l : List ℕ). spent_of l c.drop-checkpoints-checkpoints.result c.drop-messages-messages.result) c.first-bounds.ensures
+      answer = ap (λ (l : List ℕ). spent_of l c.drop_checkpoints-checkpoints.result c.drop_messages-messages.result) c.first_bounds.ensures
           ∙ ap₂ (spent_of _) cut.value left.value
           ∙ collected-told bs c.count-clusters.result same-book mid out m m' least c.count-clusters.ensures.value cut.after (left.after m')
           ∙ ap (λ (x : Book). spent (view x m)) is;
       after = left.after m' ∙ collected-view bs same-book mid m m' least cut.after ∙ ap (λ (x : Book). collected (view x m)) is;
       sound = left.sound;
-      store-sound = cut.store-sound;
+      store_sound = cut.store_sound;
     }

@@ -9,15 +9,15 @@ pub returns : goal.returns
 returns g c =
     let b = c.args.book.now in
     let ps = c.args.places in
-    let mid = c.back-to.new.book in
+    let mid = c.back_to.new.book in
     let m = g.S.Store.model c.args.store.now in
-    let m' = g.S.Store.model c.back-to.new.store in
+    let m' = g.S.Store.model c.back_to.new.store in
     record {
       answer = (
         c.told_places.ensures ∙ ap (λ (n : ℕ). tells_places n ps) c.count-clusters.ensures.len,
-        c.undo-messages-ids.ensures.value ∙ ap (λ (ms : List Logged). again ps (log_back ps ms)) (back_items ps b mid m m' c.back-to.ensures.after),
+        c.undo_messages-ids.ensures.value ∙ ap (λ (ms : List Logged). again ps (log_back ps ms)) (back_items ps b mid m m' c.back_to.ensures.after),
       );
-      after = c.undo-messages-ids.ensures.after m' ∙ resumed-view ps b mid m m' c.back-to.ensures.after;
-      sound = c.undo-messages-ids.ensures.sound;
-      store-sound = c.back-to.ensures.store-sound;
+      after = c.undo_messages-ids.ensures.after m' ∙ resumed-view ps b mid m m' c.back_to.ensures.after;
+      sound = c.undo_messages-ids.ensures.sound;
+      store_sound = c.back_to.ensures.store_sound;
     }

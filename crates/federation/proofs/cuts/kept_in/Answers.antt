@@ -16,11 +16,11 @@ adds c =
     let is = c.len.ensures ∙ c.cluster-item.result.kept.ok.0 in
     (is, omega arith)
 
-pub overflow-cast-sum : goal.overflow-cast-sum
-overflow-cast-sum c = let few = (adds c).1 in omega arith
+pub overflow_cast-sum : goal.overflow_cast-sum
+overflow_cast-sum c = let few = (adds c).1 in omega arith
 
-pub overflow-add-sum : goal.overflow-add-sum
-overflow-add-sum c =
+pub overflow_add-sum : goal.overflow_add-sum
+overflow_add-sum c =
     let few = (adds c).1 in
     let most = c.loop-cluster.invariant.0 in
     let near = c.loop-cluster-test.true in

@@ -16,8 +16,8 @@ bounds-requires c =
     let b = c.args.book.now in
     let few = (is_sound_lem b c.requires).few in
     let len = b.clusters.ok.0 in
-    let many = ap length c.as-slice.ensures.value in
-    record { few = omega arith; sound = ap (clusters_sound 0) c.as-slice.ensures.value ∙ clusters_of_sound b c.requires }
+    let many = ap length c.as_slice.ensures.value in
+    record { few = omega arith; sound = ap (clusters_sound 0) c.as_slice.ensures.value ∙ clusters_of_sound b c.requires }
 
 abbrev with_restart_lem : Book → Option Restart → Book
 with_restart_lem b o =
@@ -28,7 +28,7 @@ returns c =
     let b = c.args.book.now in
     record {
       value = c.bounds.ensures.value
-          ∙ ap (λ (cs : List Cluster). lowest (length cs) (map group cs)) c.as-slice.ensures.value
+          ∙ ap (λ (cs : List Cluster). lowest (length cs) (map group cs)) c.as_slice.ensures.value
           ∙ ap (λ (n : ℕ). lowest n (groups b)) (sym (length-map (vec_items b.clusters) group));
       same = ap (with_restart_lem b) c.bounds.ensures.same;
     }

@@ -17,7 +17,7 @@ returns g c =
     let v : Shown = view b m in
     let t : Ticket = record { name = c.args.name; count = c.args.count } in
     let r = c.in-Some.restart in
-    let none : resume_refusal v t ≡ None = resume_allowed v t r c.in-Some.is (sym c.if-not-is-newest.ensures) (not-false _ c.if-not-restart.false) in
+    let none : resume_refusal v t ≡ None = resume_allowed v t r c.in-Some.is (sym c.if-not-is_newest.ensures) (not-false _ c.if-not-restart.false) in
     let told : resumed_of c.go_back.result ≡ resumed_tells v v.restart =
     ap₂ (λ (x y : List ℕ). (x, y)) (c.go_back.ensures.answer.0 ∙ ap (λ (n : ℕ). tells_places n r.places) (sym (shown_len b m))) c.go_back.ensures.answer.1
     ∙ ap (resumed_tells v) (sym c.in-Some.is) in
@@ -25,5 +25,5 @@ returns g c =
       answer = tells (resume_refusal v t) (resumed_of c.go_back.result) none ∙ ap (λ (x : List ℕ × List ℕ). replied (resume_refusal v t) x) told;
       after = c.go_back.ensures.after ∙ ap (resumed v) (sym c.in-Some.is) ∙ done (resume_refusal v t) v (resumed v v.restart) none;
       sound = c.go_back.ensures.sound;
-      store-sound = c.go_back.ensures.store-sound;
+      store_sound = c.go_back.ensures.store_sound;
     }

@@ -15,7 +15,7 @@ again-requires c =
     let short = (is_sound_lem b c.requires).short in
     let len = b.log.ok.0 in
     let fewer = log-back-short c.args.places.now (vec_items b.log) in
-    let many = ap length (c.as-slice.ensures.value ∙ c.log-back.ensures.items) in
+    let many = ap length (c.as_slice.ensures.value ∙ c.log_back.ensures.items) in
     omega arith
 
 pub returns : goal.returns
@@ -23,7 +23,7 @@ returns c =
     let b = c.args.book.now in
     let ps = c.args.places.now in
     record {
-      value = c.again.ensures ∙ ap (again ps) (c.as-slice.ensures.value ∙ c.log-back.ensures.items);
-      after = λ m. ap (λ (ms : List Logged). with_restart (with_log (view b m) ms) None) c.log-back.ensures.items;
-      sound = sound-left b _ _ c.requires refl refl refl c.log-back.ensures.capacity c.log-back.ensures.items (back-left ps (vec_items b.log));
+      value = c.again.ensures ∙ ap (again ps) (c.as_slice.ensures.value ∙ c.log_back.ensures.items);
+      after = λ m. ap (λ (ms : List Logged). with_restart (with_log (view b m) ms) None) c.log_back.ensures.items;
+      sound = sound-left b _ _ c.requires refl refl refl c.log_back.ensures.capacity c.log_back.ensures.items (back-left ps (vec_items b.log));
     }

@@ -16,18 +16,18 @@ pub returns : goal.returns
 returns c =
     let b = c.args.book.now in
     let M = message_at (vec_items b.log) c.args.place in
-    let is = c.message-at-message.ensures.value in
+    let is = c.message_at-message.ensures.value in
     let to_is : c.from-to.result ≡ M.to = c.from-to.ensures ∙ ap (λ (x : Message). x.to) is in
-    let none : round_refusal (bare b) M.to ≡ None = ap (round_refusal (bare b)) (sym to_is) ∙ sym c.in-default.ensures in
+    let none : round_refusal (bare b) M.to ≡ None = ap (round_refusal (bare b)) (sym to_is) ∙ sym c.in_default.ensures in
     let n = entry c.cluster.result.now.row c.from-to.result in
     let n-is : n ≡ number (bare b) M.to = ap (λ (x : Group). entry x.row c.from-to.result) c.cluster.ensures ∙ ap (λ (k : ℕ). number (bare b) k) to_is in
     record {
       answer = λ m. tells (round_refusal (view b m) M.to) (Forced _) none ∙ ap (λ (k : ℕ). replies m k) (add-one n ∙ ap suc n-is);
-      after = λ m. c.set-round.ensures.after m
-          ∙ ap (λ (r : Round). with_cluster (view b m) c.from-to.result (with_round (at (view b m) c.from-to.result) (Some r))) (c.new_round_lem.ensures ∙ ap (λ (x : Message). new_round c.args.rank (Some x.id)) is)
+      after = λ m. c.set_round.ensures.after m
+          ∙ ap (λ (r : Round). with_cluster (view b m) c.from-to.result (with_round (at (view b m) c.from-to.result) (Some r))) (c.new_round.ensures ∙ ap (λ (x : Message). new_round c.args.rank (Some x.id)) is)
           ∙ ap (λ (k : ℕ). open_round (view b m) k c.args.rank (Some M.id)) to_is
           ∙ done (round_refusal (view b m) M.to) (view b m) _ none;
-      sound = c.set-round.ensures.sound;
+      sound = c.set_round.ensures.sound;
     }
   where
     replies : Model → ℕ → Result Arrived Refusal

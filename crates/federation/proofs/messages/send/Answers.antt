@@ -14,28 +14,28 @@ use Rattle.federation.proofs.messages.send.Goals as goal
 pub cluster-requires : goal.cluster-requires
 cluster-requires c =
     let b = c.args.book.now in
-    let ok = send_allowed (bare b) c.args.from c.args.to (sym c.in-default.ensures) in
+    let ok = send_allowed (bare b) c.args.from c.args.to (sym c.in_default.ensures) in
     let near = within b c.args.from ok.from in
     omega arith
 
-pub offset-bounds-cluster-i : goal.offset-bounds-cluster-i
-offset-bounds-cluster-i c =
+pub offset_bounds-cluster-i : goal.offset_bounds-cluster-i
+offset_bounds-cluster-i c =
     let b = c.args.book.now in
-    let ok = send_allowed (bare b) c.args.from c.args.to (sym c.in-default.ensures) in
+    let ok = send_allowed (bare b) c.args.from c.args.to (sym c.in_default.ensures) in
     let near = few-shown b c.args.from c.requires (within b c.args.from ok.from) in
     omega arith
 
 pub bounds-cluster-i : goal.bounds-cluster-i
 bounds-cluster-i c =
     let b = c.args.book.now in
-    let ok = send_allowed (bare b) c.args.from c.args.to (sym c.in-default.ensures) in
+    let ok = send_allowed (bare b) c.args.from c.args.to (sym c.in_default.ensures) in
     let near = few-shown b c.args.from c.requires (within b c.args.from ok.from) in
     omega arith
 
-pub log-message-requires : goal.log-message-requires
-log-message-requires c =
+pub log_message-requires : goal.log_message-requires
+log_message-requires c =
     let b = c.args.book.now in
-    let ok = send_allowed (bare b) c.args.from c.args.to (sym c.in-default.ensures) in
+    let ok = send_allowed (bare b) c.args.from c.args.to (sym c.in_default.ensures) in
     let len = b.log.ok.0 in
     let free = ok.free in
     record {
@@ -48,15 +48,15 @@ log-message-requires c =
 pub returns : goal.returns
 returns c =
     let b = c.args.book.now in
-    let none = sym c.in-default.ensures in
+    let none = sym c.in_default.ensures in
     let i = c.args.from in
     let j = c.args.to in
     let n-is : entry c.cluster.result.now.row c.from-i.result ≡ number (bare b) i =
     ap (λ (x : Group). entry x.row c.from-i.result) c.cluster.ensures ∙ ap (λ (k : ℕ). number (bare b) k) c.from-i.ensures in
     record {
       answer = λ m. tells (send_refusal (view b m) i j) (record { id = b.next_id; number = entry c.cluster.result.now.row c.from-i.result }) none ∙ ap (λ (n : ℕ). replies m n) n-is;
-      after = λ m. c.log-message.ensures.after m ∙ done (send_refusal (view b m) i j) (view b m) (sent (view b m) i j c.args.word) none;
-      sound = c.log-message.ensures.sound;
+      after = λ m. c.log_message.ensures.after m ∙ done (send_refusal (view b m) i j) (view b m) (sent (view b m) i j c.args.word) none;
+      sound = c.log_message.ensures.sound;
     }
   where
     replies : Model → ℕ → Result Sent Refusal

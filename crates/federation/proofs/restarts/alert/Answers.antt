@@ -8,28 +8,28 @@ use Rattle.federation.proofs.restarts.alert.Goals as goal
 pub carry-moved-requires : goal.carry-moved-requires
 carry-moved-requires c =
     let b = c.args.book.now in
-    let ok = alert_allowed (bare b) _ c.args.from c.args.to c.in-default.ensures in
+    let ok = alert_allowed (bare b) _ c.args.from c.args.to c.in_default.ensures in
     let near = few-shown b c.args.from c.requires (within b c.args.from ok.0) in
     let far = few-shown b c.args.to c.requires (within b c.args.to ok.1) in
     record {
       origin = omega arith;
       target = omega arith;
-      few = slice_few b _ c.requires c.as-slice.ensures.value;
-      sound = slice_sound b _ c.requires c.as-slice.ensures.value;
+      few = slice_few b _ c.requires c.as_slice.ensures.value;
+      sound = slice_sound b _ c.requires c.as_slice.ensures.value;
     }
 
 pub bounds-restart-j : goal.bounds-restart-j
 bounds-restart-j c =
     let b = c.args.book.now in
-    let ok = alert_allowed (bare b) _ c.args.from c.args.to c.in-default.ensures in
+    let ok = alert_allowed (bare b) _ c.args.from c.args.to c.in_default.ensures in
     let far = few-shown b c.args.to c.requires (within b c.args.to ok.1) in
     omega arith
 
 pub returns-in-Some-restart : goal.returns-in-Some-restart
 returns-in-Some-restart c =
     let b = c.args.book.now in
-    let none = sym c.in-default.ensures in
-    let shows = ap (map group) c.as-slice.ensures.value in
+    let none = sym c.in_default.ensures in
+    let shows = ap (map group) c.as_slice.ensures.value in
     record {
       answer = λ m. alert_says (view b m) _ _ _ _ _ _ _ _ none c.in-Some-restart.is c.from.ensures c.from-j.ensures shows c.carry-moved.ensures.after _ _ c.carry-moved.ensures.moved c.told.ensures;
       after = λ m. alert_leaves (view b m) _ _ _ _ _ _ _ _ none c.in-Some-restart.is c.from.ensures c.from-j.ensures shows c.carry-moved.ensures.after;

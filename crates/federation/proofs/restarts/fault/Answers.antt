@@ -9,34 +9,34 @@ use Rattle.federation.proofs.restarts.fault.Goals as goal
 pub begin-restart-requires : goal.begin-restart-requires
 begin-restart-requires c =
     let b = c.args.book.now in
-    let ok = fault_allowed (bare b) c.args.cluster c.in-default.ensures in
+    let ok = fault_allowed (bare b) c.args.cluster c.in_default.ensures in
     let near = within b c.args.cluster ok.0 in
-    let len = slice_len b _ c.requires c.as-slice.ensures.value in
-    record { within = omega arith; few = slice_few b _ c.requires c.as-slice.ensures.value }
+    let len = slice_len b _ c.requires c.as_slice.ensures.value in
+    record { within = omega arith; few = slice_few b _ c.requires c.as_slice.ensures.value }
 
-pub overflow-add-book : goal.overflow-add-book
-overflow-add-book c =
-    let ok = fault_allowed (bare c.args.book.now) c.args.cluster c.in-default.ensures in
-    let same = ap (λ (x : Shown). x.restarts) (c.drop-rounds.ensures.after (record { table = []; capacity = 0; full = 0 })) in
+pub overflow_add-book : goal.overflow_add-book
+overflow_add-book c =
+    let ok = fault_allowed (bare c.args.book.now) c.args.cluster c.in_default.ensures in
+    let same = ap (λ (x : Shown). x.restarts) (c.drop_rounds.ensures.after (record { table = []; capacity = 0; full = 0 })) in
     let few = ok.1 in
     omega arith
 
 pub bounds-restart-i : goal.bounds-restart-i
 bounds-restart-i c =
     let b = c.args.book.now in
-    let ok = fault_allowed (bare b) c.args.cluster c.in-default.ensures in
+    let ok = fault_allowed (bare b) c.args.cluster c.in_default.ensures in
     let near = few-shown b c.args.cluster c.requires (within b c.args.cluster ok.0) in
     omega arith
 
 pub returns : goal.returns
 returns c =
     let b = c.args.book.now in
-    let none = sym c.in-default.ensures in
-    let ok = fault_allowed (bare b) c.args.cluster c.in-default.ensures in
+    let none = sym c.in_default.ensures in
+    let ok = fault_allowed (bare b) c.args.cluster c.in_default.ensures in
     let near = few-shown b c.args.cluster c.requires (within b c.args.cluster ok.0) in
-    let shows = ap (map group) c.as-slice.ensures.value in
+    let shows = ap (map group) c.as_slice.ensures.value in
     record {
       answer = λ m. fault_says (view b m) c.args.cluster _ _ _ none c.from-i.ensures shows c.begin-restart.ensures near;
-      after = λ m. fault_leaves (view b m) c.args.cluster _ _ _ none c.from-i.ensures shows c.begin-restart.ensures (view c.drop-rounds.new.self m) (c.drop-rounds.ensures.after m);
-      sound = sound-restarted c.drop-rounds.new.self _ _ c.drop-rounds.ensures.sound;
+      after = λ m. fault_leaves (view b m) c.args.cluster _ _ _ none c.from-i.ensures shows c.begin-restart.ensures (view c.drop_rounds.new.self m) (c.drop_rounds.ensures.after m);
+      sound = sound-restarted c.drop_rounds.new.self _ _ c.drop_rounds.ensures.sound;
     }

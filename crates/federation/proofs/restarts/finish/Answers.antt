@@ -9,14 +9,14 @@ use Rattle.federation.proofs.restarts.finish.Goals as goal
 pub drain-requires : goal.drain-requires
 drain-requires c =
     let b = c.args.book.now in
-    record { few = slice_few b _ c.requires c.as-slice.ensures.value; sound = slice_sound b _ c.requires c.as-slice.ensures.value }
+    record { few = slice_few b _ c.requires c.as_slice.ensures.value; sound = slice_sound b _ c.requires c.as_slice.ensures.value }
 
 pub returns-in-Some-restart : goal.returns-in-Some-restart
 returns-in-Some-restart c =
     let b = c.args.book.now in
-    let none = sym c.in-default.ensures in
+    let none = sym c.in_default.ensures in
     record {
       answer = λ m. tells (finish_refusal (view b m) _) tt none;
-      after = λ m. finish_leaves (view b m) _ _ _ _ none c.in-Some-restart.is (ap (map group) c.as-slice.ensures.value) c.drain.ensures;
+      after = λ m. finish_leaves (view b m) _ _ _ _ none c.in-Some-restart.is (ap (map group) c.as_slice.ensures.value) c.drain.ensures;
       sound = sound-restarted b _ _ c.requires;
     }

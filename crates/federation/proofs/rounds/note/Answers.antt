@@ -5,8 +5,8 @@ use Rattle.book.specs.View.{view, bare}
 use Rattle.federation.proofs.Allowed.{open_ends}
 use Rattle.federation.proofs.rounds.note.Goals as goal
 
-pub set-round-requires : goal.set-round-requires
-set-round-requires c =
+pub set_round-requires : goal.set_round-requires
+set_round-requires c =
     let b = c.args.book.now in
     record {
       within = subst (λ (i : ℕ). i < vec_len b.clusters) (sym c.from.ensures) c.requires.within;
@@ -17,6 +17,6 @@ set-round-requires c =
 pub returns : goal.returns
 returns c =
     record {
-      after = λ m. c.set-round.ensures.after m ∙ ap (λ (i : ℕ). with_cluster (view c.args.book.now m) i (with_round (at (view c.args.book.now m) i) (Some c.args.round))) c.from.ensures;
-      sound = c.set-round.ensures.sound;
+      after = λ m. c.set_round.ensures.after m ∙ ap (λ (i : ℕ). with_cluster (view c.args.book.now m) i (with_round (at (view c.args.book.now m) i) (Some c.args.round))) c.from.ensures;
+      sound = c.set_round.ensures.sound;
     }

@@ -13,13 +13,13 @@ use Rattle.federation.proofs.rounds.request.Goals as goal
 pub cluster-requires : goal.cluster-requires
 cluster-requires c =
     let b = c.args.book.now in
-    let ok = request_allowed (bare b) c.args.cluster c.args.rank (sym c.in-default.ensures) in
+    let ok = request_allowed (bare b) c.args.cluster c.args.rank (sym c.in_default.ensures) in
     subst (λ (i : ℕ). i < vec_len b.clusters) (sym c.from-i.ensures) (within b c.args.cluster ok.0)
 
-pub set-round-requires : goal.set-round-requires
-set-round-requires c =
+pub set_round-requires : goal.set_round-requires
+set_round-requires c =
     let b = c.args.book.now in
-    let ok = request_allowed (bare b) c.args.cluster c.args.rank (sym c.in-default.ensures) in
+    let ok = request_allowed (bare b) c.args.cluster c.args.rank (sym c.in_default.ensures) in
     record {
       within = subst (λ (i : ℕ). i < vec_len b.clusters) (sym c.from-i.ensures) (within b c.args.cluster ok.0);
       sound = c.requires;
@@ -31,16 +31,16 @@ returns c =
     let b = c.args.book.now in
     let i = c.args.cluster in
     let rank = c.args.rank in
-    let none = sym c.in-default.ensures in
+    let none = sym c.in_default.ensures in
     let round : Round = requested rank (at (bare b) i).round in
     let round_is : c.requested-round.result ≡ round =
     c.requested-round.ensures ∙ ap (λ (x : Group). requested rank x.round) c.cluster.ensures ∙ ap (λ (k : ℕ). requested rank (at (bare b) k).round) c.from-i.ensures in
     record {
       answer = λ m. tells (request_refusal (view b m) i rank) c.requested-round.result.initiator none ∙ ap (λ (r : Round). replies m r.initiator) round_is;
-      after = λ m. c.set-round.ensures.after m
+      after = λ m. c.set_round.ensures.after m
           ∙ ap₂ (λ (k : ℕ) (r : Round). with_cluster (view b m) k (with_round (at (view b m) k) (Some r))) c.from-i.ensures round_is
           ∙ done (request_refusal (view b m) i rank) (view b m) _ none;
-      sound = c.set-round.ensures.sound;
+      sound = c.set_round.ensures.sound;
     }
   where
     replies : Model → ℕ → Result ℕ Refusal

@@ -7,6 +7,6 @@ use Rattle.book.specs.View.{bare}
 use Rattle.federation.proofs.Allowed.{shown-ascends}
 use Rattle.federation.proofs.sight.kept_at.Goals as goal
 
-pub checkpoint-at-requires : goal.checkpoint-at-requires
-checkpoint-at-requires c =
-    ap (ascending number_of) (c.as-slice.ensures.value ∙ ap (λ (x : Group). x.kept) c.cluster.ensures) ∙ shown-ascends c.args.book.now c.args.i c.requires.sound c.requires.within
+pub checkpoint_at-requires : goal.checkpoint_at-requires
+checkpoint_at-requires c =
+    ap (ascending number_of) (c.as_slice.ensures.value ∙ ap (λ (x : Group). x.kept) c.cluster.ensures) ∙ shown-ascends c.args.book.now c.args.i c.requires.sound c.requires.within

@@ -8,6 +8,6 @@ use Rattle.federation.proofs.trials.trial.Goals as goal
 pub trial-places-requires : goal.trial-places-requires
 trial-places-requires c =
     let b = c.args.book.now in
-    let near = within b c.args.cluster (trial_allowed (bare b) c.args.cluster c.in-default.ensures) in
-    let len = slice_len b _ c.requires c.as-slice.ensures.value in
-    record { within = omega arith; few = slice_few b _ c.requires c.as-slice.ensures.value; sound = slice_sound b _ c.requires c.as-slice.ensures.value }
+    let near = within b c.args.cluster (trial_allowed (bare b) c.args.cluster c.in_default.ensures) in
+    let len = slice_len b _ c.requires c.as_slice.ensures.value in
+    record { within = omega arith; few = slice_few b _ c.requires c.as_slice.ensures.value; sound = slice_sound b _ c.requires c.as_slice.ensures.value }

@@ -6,8 +6,8 @@ use Rattle.book.proofs.Soundness.{is_sound_lem}
 use Rattle.pruning.specs.Cutting.{prune_at}
 use Rattle.pruning.proofs.cut.prune.Goals as goal
 
-pub overflow-cast-i : goal.overflow-cast-i
-overflow-cast-i g c =
+pub overflow_cast-i : goal.overflow_cast-i
+overflow_cast-i g c =
     let few = (is_sound_lem c.args.book.now c.requires.sound).few in
     omega arith
 
@@ -17,11 +17,11 @@ loop-i-preserved g c =
     let gone = g.C.Cut.gone c.args.cut.now in
     let first = view c.args.book.now (g.S.Store.model c.args.store.now) in
     let inv = c.loop-i.invariant in
-    let done = c.prune-cluster.ensures in (
+    let done = c.prune_cluster.ensures in (
       done.after ∙ ap (prune_at change gone c.loop-i.i) inv.0 ∙ ap (λ (z : ℕ). prune change gone z first) (sym (add-one c.loop-i.i)),
       done.len ∙ inv.1,
       done.sound,
-      done.store-sound,
+      done.store_sound,
     )
 
 pub returns : goal.returns
@@ -33,5 +33,5 @@ returns g c =
     record {
       after = c.loop-i.invariant.0 ∙ ap (λ (z : ℕ). prune change gone z first) all;
       sound = c.loop-i.invariant.2;
-      store-sound = c.loop-i.invariant.3;
+      store_sound = c.loop-i.invariant.3;
     }

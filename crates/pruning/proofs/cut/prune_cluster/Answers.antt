@@ -12,25 +12,25 @@ use Rattle.pruning.proofs.cut.prune_cluster.Goals as goal
 pub change-requires : goal.change-requires
 change-requires g c =
     let b = c.args.book.now in
-    sound-cluster c.args.i c.index-mut.result.now ((is_sound_lem b c.requires.sound).clusters c.args.i c.index-mut.result.now c.requires.within c.index-mut.ensures.value)
+    sound-cluster c.args.i c.index_mut.result.now ((is_sound_lem b c.requires.sound).clusters c.args.i c.index_mut.result.now c.requires.within c.index_mut.ensures.value)
 
 pub returns : goal.returns
 returns g c =
     let b = c.args.book.now in
     let i = c.args.i in
-    let was = c.index-mut.result.now in
+    let was = c.index_mut.result.now in
     let new = c.change.new.cluster in
     let len = b.clusters.ok.0 in
     let in' : i < length (vec_items b.clusters) = omega arith in
     let same : c.index.result.now ≡ was =
-    get_or_read (vec_items b.clusters) i c.index.result.now in' c.index.ensures was ∙ sym c.index-mut.ensures.value in
+    get_or_read (vec_items b.clusters) i c.index.result.now in' c.index.ensures was ∙ sym c.index_mut.ensures.value in
     let rows : c.deref.result.now ≡ vec_items was.kept = c.deref.ensures.value ∙ ap (λ (z : Cluster). vec_items z.kept) same in
     let gone = g.C.Cut.gone c.args.cut.now in
     let m = g.S.Store.model c.args.store.now in
     record {
-      after = prune-shown (g.C.Cut.change c.args.cut.now) gone b m i was new c.requires.within c.index-mut.ensures.value c.change.ensures.after
-          (g.S.Store.model c.discard-rows.new.store) (c.discard-rows.ensures.after ∙ ap (λ (z : List Checkpoint). discard i (gone i) z m) rows);
+      after = prune-shown (g.C.Cut.change c.args.cut.now) gone b m i was new c.requires.within c.index_mut.ensures.value c.change.ensures.after
+          (g.S.Store.model c.discard_rows.new.store) (c.discard_rows.ensures.after ∙ ap (λ (z : List Checkpoint). discard i (gone i) z m) rows);
       len = refl;
       sound = sound_is (with_one b i new) (book_stays b i new c.requires.within (is_sound_lem b c.requires.sound) (cluster_is_sound i new c.change.ensures.sound));
-      store-sound = c.discard-rows.ensures.sound;
+      store_sound = c.discard_rows.ensures.sound;
     }

@@ -8,7 +8,7 @@ pub swap-requires : goal.swap-requires
 swap-requires g c =
     let behind = c.loop-i.invariant.0.behind in
     let len = c.loop-i.invariant.2 in
-    record { i-in-bounds = omega arith; j-in-bounds = omega arith }
+    record { i_in_bounds = omega arith; j_in_bounds = omega arith }
 
 pub loop-i-preserved : goal.loop-i-preserved
 loop-i-preserved g c =

@@ -6,7 +6,7 @@ use Rattle.book.specs.Listed.{listed}
 use Rattle.book.specs.Sound.{id_of}
 use Rattle.pruning.proofs.Picking.{picked_few, picked_more, picked_same}
 use Rattle.pruning.proofs.log.again.Goals as goal
-use Rattle.pruning.proofs.log.again.Goals.{then-goes-again, else-goes-again}
+use Rattle.pruning.proofs.log.again.Goals.{then-goes_again, else-goes_again}
 
 pub push-requires : goal.push-requires
 push-requires c =
@@ -17,13 +17,13 @@ push-requires c =
 pub loop-logged-preserved : goal.loop-logged-preserved
 loop-logged-preserved c =
     let goes = to_go_again c.args.places.now in
-    elim c.if-goes-again.branch [
-      | then-goes-again w ↦
+    elim c.if-goes_again.branch [
+      | then-goes_again w ↦
           ap listed w.ids-is ∙ w.push.ensures
-          ∙ picked_more id_of goes c.args.log.now c.loop-logged.logged-index (listed c.loop-logged.ids) _ c.loop-logged.invariant c.loop-logged-test.true (sym c.goes-again.ensures ∙ w.if-goes-again.true)
-      | else-goes-again w ↦
+          ∙ picked_more id_of goes c.args.log.now c.loop-logged.logged-index (listed c.loop-logged.ids) _ c.loop-logged.invariant c.loop-logged-test.true (sym c.goes_again.ensures ∙ w.if-goes_again.true)
+      | else-goes_again w ↦
           ap listed w.ids-is
-          ∙ picked_same id_of goes c.args.log.now c.loop-logged.logged-index (listed c.loop-logged.ids) _ c.loop-logged.invariant c.loop-logged-test.true (sym c.goes-again.ensures ∙ w.if-goes-again.false)
+          ∙ picked_same id_of goes c.args.log.now c.loop-logged.logged-index (listed c.loop-logged.ids) _ c.loop-logged.invariant c.loop-logged-test.true (sym c.goes_again.ensures ∙ w.if-goes_again.false)
     ]
 
 pub returns : goal.returns

@@ -10,8 +10,8 @@ use Rattle.book.proofs.Soundness.{each_sound}
 use Rattle.recovery.specs.Called.{entry_of, called_in}
 use Rattle.recovery.proofs.alerts.called_to.Goals as goal
 
-pub called-in-requires : goal.called-in-requires
-called-in-requires c =
+pub called_in-requires : goal.called_in-requires
+called_in-requires c =
     record {
       within = c.requires.origin;
       ascends = (each_sound 0 c.args.clusters.now c.requires.sound c.args.to c.index-clusters-to.result c.if-to-clusters.true c.index-clusters-to.is).ascends;
@@ -20,7 +20,7 @@ called-in-requires c =
 pub returns-then-to-clusters : goal.returns-then-to-clusters
 returns-then-to-clusters c =
     let r = c.args.restart.now in
-    c.called-in.ensures
+    c.called_in.ensures
     ∙ ap (λ (g : Group). called_in g c.args.from (place r c.args.from) (place r c.args.to))
     (group_at c.args.clusters.now c.args.to c.index-clusters-to.result c.if-to-clusters.true c.index-clusters-to.is)
 

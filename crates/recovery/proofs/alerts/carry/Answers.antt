@@ -10,9 +10,9 @@ pub returns-in-Some : goal.returns-in-Some
 returns-in-Some c =
     let j = c.args.to in
     let within : c.args.from < length c.args.restart.now.waiting = search rules in
-    let others = c.to-others.ensures ∙ ap (λ (n : ℕ). to_others n j) (sym (length-map c.args.clusters.now group)) in
+    let others = c.to_others.ensures ∙ ap (λ (n : ℕ). to_others n j) (sym (length-map c.args.clusters.now group)) in
     record {
-      after = carries_some (map group c.args.clusters.now) c.args.restart.now c.args.from j within c.in-Some.place c.to-others.result others c.in-Some.ensures;
+      after = carries_some (map group c.args.clusters.now) c.args.restart.now c.args.from j within c.in-Some.place c.to_others.result others c.in-Some.ensures;
       moved = ap is_some c.in-Some.ensures;
     }
 

@@ -22,4 +22,4 @@ loop-from-preserved c =
 
 pub returns : goal.returns
 returns c =
-    sym (drained_none (map group c.args.clusters.now) (few-shown c.args.clusters.now c.requires.few) c.loop-from.restart c.in-default.ensures.value) ∙ c.loop-from.invariant
+    sym (drained_none (map group c.args.clusters.now) (few-shown c.args.clusters.now c.requires.few) c.loop-from.restart c.in_default.ensures.value) ∙ c.loop-from.invariant

@@ -13,7 +13,7 @@ returns-in-Some c =
     }
 
 pub loop-from-preserved : goal.loop-from-preserved
-loop-from-preserved c = waits_more c.args.waiting.now c.loop-from.from _ (omega arith) c.in-default.ensures.value ∙ c.loop-from.invariant
+loop-from-preserved c = waits_more c.args.waiting.now c.loop-from.from _ (omega arith) c.in_default.ensures.value ∙ c.loop-from.invariant
 
 pub returns : goal.returns
 returns c =

@@ -5,15 +5,15 @@ use Rattle.std.proofs.lemmas.Bool.{cond-true, cond-false}
 use Rattle.law.specs.Restarts.{latest}
 use Rattle.recovery.proofs.Firsts.{latest_more}
 use Rattle.recovery.proofs.alerts.latest.Goals as goal
-use Rattle.recovery.proofs.alerts.latest.Goals.{then-is-before, else-is-before}
+use Rattle.recovery.proofs.alerts.latest.Goals.{then-is_before, else-is_before}
 
 pub loop-checkpoint-preserved : goal.loop-checkpoint-preserved
 loop-checkpoint-preserved c =
-    latest_more c.args.from c.args.back c.args.place c.args.kept.now c.loop-checkpoint.checkpoint-index _ c.loop-checkpoint.found c.if-is-before.found
+    latest_more c.args.from c.args.back c.args.place c.args.kept.now c.loop-checkpoint.checkpoint-index _ c.loop-checkpoint.found c.if-is_before.found
     c.loop-checkpoint-test.true
-    (elim c.if-is-before.branch [
-      | then-is-before w ↦ w.found-is ∙ sym (cond-true _ _ _ (sym c.is-before.ensures ∙ w.if-is-before.true))
-      | else-is-before w ↦ w.found-is ∙ sym (cond-false _ _ _ (sym c.is-before.ensures ∙ w.if-is-before.false))
+    (elim c.if-is_before.branch [
+      | then-is_before w ↦ w.found-is ∙ sym (cond-true _ _ _ (sym c.is_before.ensures ∙ w.if-is_before.true))
+      | else-is_before w ↦ w.found-is ∙ sym (cond-false _ _ _ (sym c.is_before.ensures ∙ w.if-is_before.false))
     ])
     ∙ c.loop-checkpoint.invariant
 

@@ -7,7 +7,7 @@ use Rattle.recovery.proofs.simulate.bounds.Goals as goal
 pub loop-failed-preserved : goal.loop-failed-preserved
 loop-failed-preserved c =
     let one : suc c.loop-failed.failed ≡ c.loop-failed.failed + 1 = omega arith in (
-      c.lower-of-next.ensures
+      c.lower_of-next.ensures
           ∙ ap₂ lower c.loop-failed.invariant.0 c.trial.ensures.value
           ∙ ap (λ (k : ℕ). lowest k (map group c.args.clusters.now)) one,
       c.trial.ensures.same ∙ c.loop-failed.invariant.1,

@@ -22,10 +22,10 @@ returns-in-Ok g c =
     let b = shown g.S.Store.model f in
     let i = c.args.cluster in
     let r = c.args.round in
-    let n-is : c.next-number-number.result ≡ suc (number b i) = c.next-number-number.ensures in
+    let n-is : c.next_number-number.result ≡ suc (number b i) = c.next_number-number.ensures in
     let nodes_is : c.from-nodes.result - 0 ≡ b.nodes = let e = c.from-nodes.ensures in let k = c.nodes.ensures.value in omega arith in
-    let ws-is : take (c.from-nodes.result - 0) c.words-of-words.result ≡ given b r =
-    ap₂ (λ (k : ℕ) (ws : List ℕ). take k ws) nodes_is c.words-of-words.ensures ∙ take-map or_zero b.nodes r.answers in
+    let ws-is : take (c.from-nodes.result - 0) c.words_of-words.result ≡ given b r =
+    ap₂ (λ (k : ℕ) (ws : List ℕ). take k ws) nodes_is c.words_of-words.ensures ∙ take-map or_zero b.nodes r.answers in
     let none : keeping b i r ≡ None =
     ap₂ (λ (k : ℕ) (ws : List ℕ). from_store (keep_refusal b.store i k ws)) (sym n-is) (sym ws-is) ∙ kept_none _ c.in-Ok.ensures.answer in
     let model_is : g.S.Store.model c.keep.new.self ≡ keep_model b.store i (suc (number b i)) (given b r) =
@@ -47,10 +47,10 @@ returns-in-Err g c =
     let b = shown g.S.Store.model f in
     let i = c.args.cluster in
     let r = c.args.round in
-    let n-is : c.next-number-number.result ≡ suc (number b i) = c.next-number-number.ensures in
+    let n-is : c.next_number-number.result ≡ suc (number b i) = c.next_number-number.ensures in
     let nodes_is : c.from-nodes.result - 0 ≡ b.nodes = let e = c.from-nodes.ensures in let k = c.nodes.ensures.value in omega arith in
-    let ws-is : take (c.from-nodes.result - 0) c.words-of-words.result ≡ given b r =
-    ap₂ (λ (k : ℕ) (ws : List ℕ). take k ws) nodes_is c.words-of-words.ensures ∙ take-map or_zero b.nodes r.answers in
+    let ws-is : take (c.from-nodes.result - 0) c.words_of-words.result ≡ given b r =
+    ap₂ (λ (k : ℕ) (ws : List ℕ). take k ws) nodes_is c.words_of-words.ensures ∙ take-map or_zero b.nodes r.answers in
     let why : keeping b i r ≡ Some (refuses.Store c.in-Err.why) =
     ap₂ (λ (k : ℕ) (ws : List ℕ). from_store (keep_refusal b.store i k ws)) (sym n-is) (sym ws-is) ∙ kept_some _ c.in-Err.why c.in-Err.ensures.answer in
     record {

@@ -18,10 +18,10 @@ returns g c =
     let i = c.args.cluster in
     let r = c.args.round in
     let ws = noted b r c.args.rank c.args.word in
-    let round_is : c.with-word-round.result ≡ record { initiator = r.initiator; answers = set r.answers c.args.rank (Some c.args.word); waiting = r.waiting } =
-    c.with-word-round.ensures ∙ ap (λ (k : ℕ). with_at k) c.from.ensures in
+    let round_is : c.with_word-round.result ≡ record { initiator = r.initiator; answers = set r.answers c.args.rank (Some c.args.word); waiting = r.waiting } =
+    c.with_word-round.ensures ∙ ap (λ (k : ℕ). with_at k) c.from.ensures in
     let nodes_is : c.from-nodes.result - 0 ≡ b.nodes = let e = c.from-nodes.ensures in let k = c.nodes.ensures.value in omega arith in
-    let ws-is : take (c.from-nodes.result - 0) c.with-word-round.result.answers ≡ ws = ap₂ (λ (k : ℕ) (x : Round). take k x.answers) nodes_is round_is in
+    let ws-is : take (c.from-nodes.result - 0) c.with_word-round.result.answers ≡ ws = ap₂ (λ (k : ℕ) (x : Round). take k x.answers) nodes_is round_is in
     let left_is : c.missing-left.result ≡ lacking ws = c.missing-left.ensures ∙ ap lacking ws-is in
     let not_last : eqb (lacking ws) 0 ≡ false = ne_eqb (lacking ws) 0 (λ e. c.if-left-eq0.false (left_is ∙ e)) in
     let verdict : answer_keeps b i ws ≡ None = cond-false (eqb (lacking ws) 0) _ _ not_last in

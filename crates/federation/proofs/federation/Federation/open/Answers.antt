@@ -11,9 +11,9 @@ returns g c =
     let m = g.S.Store.model c.args.store in
     let n = c.args.clusters in
     let nodes = c.args.nodes in (
-      cond-true (opens n nodes m) None (Some refuses.BadOpen) (sym c.if-not-may-open.ensures),
-      c.in-Ok.ensures.0 (g.S.Store.model c.keep-first.new.store)
-          ∙ ap₂ (λ (k : ℕ) (x : Model). new_book c.args.name k nodes x) c.from.ensures c.keep-first.ensures.after,
+      cond-true (opens n nodes m) None (Some refuses.BadOpen) (sym c.if-not-may_open.ensures),
+      c.in-Ok.ensures.0 (g.S.Store.model c.keep_first.new.store)
+          ∙ ap₂ (λ (k : ℕ) (x : Model). new_book c.args.name k nodes x) c.from.ensures c.keep_first.ensures.after,
       refl,
-      c.keep-first.ensures.sound,
+      c.keep_first.ensures.sound,
     )

@@ -10,8 +10,8 @@ use Rattle.pruning.proofs.Staying.{Settled, settled, cluster-stays}
 use Rattle.pruning.proofs.Cutting.{back-shown}
 use Rattle.pruning.proofs.cut.BackCut.change.Goals as goal
 
-pub row-back-row-requires : goal.row-back-row-requires
-row-back-row-requires c = (cluster_is_sound c.args.i c.args.cluster.now c.requires).ascends
+pub row_back-row-requires : goal.row_back-row-requires
+row_back-row-requires c = (cluster_is_sound c.args.i c.args.cluster.now c.requires).ascends
 
 pub returns : goal.returns
 returns c =
@@ -19,11 +19,11 @@ returns c =
     let place = c.entry-place.result in
     let i = c.args.i in
     let s = cluster_is_sound i was c.requires in
-    let new : Cluster = record { row = c.row-back-row.result; kept = c.retain.new.items; round = was.round } in
-    let there : Settled place (entry was.row i) (entry c.row-back-row.result i) =
-    subst (λ (z : List ℕ). Settled place (entry was.row i) (entry z i)) (sym c.row-back-row.ensures) (settled i place was.row (vec_items was.kept) s.topped) in
+    let new : Cluster = record { row = c.row_back-row.result; kept = c.retain.new.items; round = was.round } in
+    let there : Settled place (entry was.row i) (entry c.row_back-row.result i) =
+    subst (λ (z : List ℕ). Settled place (entry was.row i) (entry z i)) (sym c.row_back-row.ensures) (settled i place was.row (vec_items was.kept) s.topped) in
     record {
-      after = back-shown was place c.row-back-row.result (vec_items c.retain.new.items) c.row-back-row.ensures c.retain.ensures.items
+      after = back-shown was place c.row_back-row.result (vec_items c.retain.new.items) c.row_back-row.ensures c.retain.ensures.items
           ∙ ap (λ (z : ℕ). back z (group was)) c.entry-place.ensures;
       sound = sound-cluster i new (cluster-stays i was new (λ k. leb k.number place) s c.retain.ensures.items c.retain.ensures.capacity refl there.0
           (λ k passes low. there.1 k.number (leb-true k.number place passes) low));
