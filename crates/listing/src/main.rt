@@ -4,6 +4,7 @@ use anyhow::anyhow;
 use runlist::{MOST_BYTES, ReadError, Reader};
 use std::env;
 use std::io::Read;
+use std::process::ExitCode;
 
 const HELP: &str = "usage: listing < LIST
 
@@ -14,13 +15,14 @@ ends it, what that means, and the offset of the command.
 
 Ends with status 0 if the list is accepted, else with status 1.";
 
-fn main(rt: HostRuntime) -> anyhow::Result<()> {
-    match run(&rt) {
-        Ok(true) => Ok(()),
-        // what is wrong with the list has been said
-        Ok(false) => Err(anyhow!("the list is refused")),
-        Err(e) => Err(e),
-    }
+fn main(rt: HostRuntime) -> anyhow::Result<ExitCode> {
+    let accepted = run(&rt)?;
+    // what is wrong with a refused list has been said
+    Ok(if accepted {
+        ExitCode::SUCCESS
+    } else {
+        ExitCode::FAILURE
+    })
 }
 
 fn run(rt: &HostRuntime) -> anyhow::Result<bool> {
@@ -29,8 +31,7 @@ fn run(rt: &HostRuntime) -> anyhow::Result<bool> {
             println!(rt; "{HELP}")?;
             return Ok(true);
         }
-        let message = format!(in rt.alloc(); "unknown argument {arg}; try --help")?;
-        return Err(message.into());
+        return Err(anyhow!("unknown argument {arg}; try --help"));
     }
     let list = read_input(rt)?;
     print_list(rt, list.as_slice())

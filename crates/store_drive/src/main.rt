@@ -1,5 +1,6 @@
 // Drives stores of every kind through the same calls, two at a time, and compares their answers and their
 // tables after every call.
+use anyhow::anyhow;
 use calls::Calls;
 use drive::{Run, lockstep};
 use journal::{Journal, MakeRefusal};
@@ -88,8 +89,8 @@ fn show(rt: &impl Print, name: &str, run: Run) -> anyhow::Result<()> {
 
 fn reason(why: Unmade) -> anyhow::Error {
     match why {
-        Unmade::NoMemory => "no memory".into(),
-        Unmade::NoJournal => "no journal".into(),
+        Unmade::NoMemory => anyhow!("no memory"),
+        Unmade::NoJournal => anyhow!("no journal"),
     }
 }
 

@@ -20,9 +20,9 @@ loop-call-preserved g c =
     let more = run_more says b was now (take i calls) es _ e c.loop-call.invariant.0 c.make-exchange.ensures.made in
     let inv-len = c.loop-call.invariant.2 in
     let inv-cap = c.loop-call.invariant.3 in
-    let len = c.push-reserved.ensures.len in
-    let cap = c.push-reserved.ensures.capacity in (
-      subst (λ (l : List Exchange). Run says b (take (i + 1) calls) l now) (sym c.push-reserved.ensures.items)
+    let len = c.push_reserved.ensures.len in
+    let cap = c.push_reserved.ensures.capacity in (
+      subst (λ (l : List Exchange). Run says b (take (i + 1) calls) l now) (sym c.push_reserved.ensures.items)
           (subst (λ (l : List Call). Run says b l (es ++ (e ∷ [])) now) (sym (take_more calls i _ c.loop-call-test.true)) more),
       c.make-exchange.ensures.sound,
       omega arith,

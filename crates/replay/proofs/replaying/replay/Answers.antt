@@ -10,9 +10,9 @@ returns g c =
     let says = g.R.ForcingRule.says in
     let m = g.S.Store.model c.args.store in
     let opened = c.in-Ok.ensures in
-    let es = vec_items c.make-all-held.new.exchanges in
-    let now = shown g.S.Store.model c.make-all-held.new.federation in (
+    let es = vec_items c.make_all-held.new.exchanges in
+    let now = shown g.S.Store.model c.make_all-held.new.federation in (
       replaying says c.args.name c.args.clusters c.args.nodes m c.args.calls.now es now g.met.R.ForcingRule.news opened.0
-          (subst (λ (b : Book). Run says b c.args.calls.now es now) opened.1 c.make-all-held.ensures.run),
-      c.make-all-held.ensures.sound,
+          (subst (λ (b : Book). Run says b c.args.calls.now es now) opened.1 c.make_all-held.ensures.run),
+      c.make_all-held.ensures.sound,
     )
