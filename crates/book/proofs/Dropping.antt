@@ -1,6 +1,5 @@
 -- The rounds are dropped cluster by cluster: the first so many are without, the others as they were.
-use Rattle.std.proofs.Common.{◌≡◌, ℕ, zero, suc, ◌<◌, List, [], ◌∷◌, ◌++◌, map, length, get_or, take, drop, set, None, refl, ap, ◌∙◌, ap₂, arith}
-use Rattle.std.proofs.lemmas.List.{take_all, drop_all, append-nil}
+use Rattle.std.proofs.Common.{◌≡◌, ℕ, zero, suc, ◌<◌, List, [], ◌∷◌, ◌++◌, length, get_or, take, drop, set, None, refl, ap, arith}
 use Rattle.law.specs.Book.{Cluster, with_round, nobody}
 use Rattle.law.specs.Restarts.{drop_rounds}
 

@@ -1,5 +1,5 @@
 -- A round that is open in a sound book can end, as the book shows it.
-use Rattle.std.proofs.Common.{◌≡◌, ℕ, ◌<◌, Bool, true, length, get_or, is_some, vec_items, vec_len, sym, ap, ◌∙◌, subst, arith}
+use Rattle.std.proofs.Common.{◌≡◌, ℕ, ◌<◌, true, length, get_or, is_some, vec_items, vec_len, subst, arith}
 use Rattle.law.specs.Book.{Cluster as Group, nobody, entry}
 use Rattle.book.specs.declared.Book.{Book}
 use Rattle.book.specs.Sound.{sound, can_end}

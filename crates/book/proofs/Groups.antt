@@ -1,5 +1,5 @@
 -- A cluster read or written in the book is the same cluster read or written in what the book shows.
-use Rattle.std.proofs.Common.{◌≡◌, ℕ, ◌<◌, List, map, length, get_or, set, vec_items, vec_len, sym, ap, ◌∙◌, arith}
+use Rattle.std.proofs.Common.{◌≡◌, ℕ, ◌<◌, List, map, length, get_or, set, vec_items, vec_len, sym, ap, ◌∙◌}
 use Rattle.std.proofs.lemmas.List.{get_or-map, map-set, length-map}
 use Rattle.law.specs.Book.{Cluster as Group, nobody}
 use Rattle.book.specs.declared.Cluster.{Cluster}

@@ -1,6 +1,6 @@
 -- The log as a list: a receipt number written at one place is the protocol's change of the message with that id, and a change
 -- that leaves every message as it was sent leaves the order and the addresses.
-use Rattle.std.proofs.Common.{◌≡◌, ℕ, zero, suc, ◌+◌, ◌<◌, ◌≤◌, Bool, true, false, cond, not, ◌&&◌, eqb, ltb, List, [], ◌∷◌, map, length, get_or, set, Some, sym, refl, ap, ◌∙◌, subst, ap₂, arith}
+use Rattle.std.proofs.Common.{◌≡◌, ℕ, zero, suc, ◌<◌, Bool, true, not, ◌&&◌, eqb, ltb, List, [], ◌∷◌, map, length, get_or, set, Some, refl, ap₂, arith}
 use Rattle.std.specs.List.{AllByRecursion as All}
 use Rattle.std.proofs.lemmas.Bool.{cond-true, cond-false, cond_both, eq-eqb, ne_eqb, ltb-true, eqb-false, not-true, and_parts}
 use Rattle.ordered.specs.Seek.{ascending, leads}

@@ -1,10 +1,10 @@
 -- The test of a book and what it stands for, both ways, part by part.
-use Rattle.std.proofs.Common.{◌≡◌, ℕ, zero, suc, ◌+◌, ◌<◌, ◌≤◌, Bool, true, false, ltb, leb, ◌⊎◌, List, [], ◌∷◌, ◌++◌, length, get_or, set, vec_items, vec_len, vec_capacity, sym, refl, ap, ◌∙◌, subst, inl, inr, arith}
-use Rattle.std.proofs.lemmas.List.{get_or-set_same, get_or-set_other, length-set}
+use Rattle.std.proofs.Common.{◌≡◌, ℕ, zero, suc, ◌+◌, ◌<◌, ◌≤◌, Bool, true, List, [], ◌∷◌, ◌++◌, length, get_or, set, vec_items, vec_len, vec_capacity, sym, refl, ap, ◌∙◌, subst, inl, inr, arith}
+use Rattle.std.proofs.lemmas.List.{get_or-set_same, get_or-set_other}
 use Rattle.std.proofs.lemmas.Bool.{le-leb, leb-true, cases_eq}
 use Rattle.store.specs.Table.{both}
 use Rattle.store.proofs.Orders.{both_true}
-use Rattle.law.specs.Book.{most_clusters, most_nodes, most_kept, most_messages}
+use Rattle.law.specs.Book.{most_clusters, most_messages}
 use Rattle.book.specs.declared.Cluster.{Cluster}
 use Rattle.book.specs.declared.Book.{Book}
 use Rattle.ordered.specs.Seek.{ascending}

@@ -1,5 +1,7 @@
 // The book of a federation as the code holds it: every cluster with its row, its kept checkpoints and its open round, and
 // the log of messages. The memory for all of it is reserved when a federation opens.
+#![tactic(auto)]
+
 ghost use Rattle.std.specs.Prelude.{◌≡◌, ◌<◌, length, vec_len, slice_index_or};
 ghost use Rattle.law.specs.Book.{nobody};
 ghost use Rattle.book.specs.View.{group, groups};

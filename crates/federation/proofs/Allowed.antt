@@ -1,10 +1,10 @@
 -- What an accepted call has shown: the cluster exists, and a round that it opens or changes can end.
-use Rattle.std.proofs.Common.{◌≡◌, ℕ, suc, ◌<◌, ◌≤◌, Bool, true, false, cond, eqb, ltb, leb, [], length, get_or, is_some, Some, None, Ok, Err, vec_items, vec_len, Option, sym, refl, ap, ◌∙◌, subst, arith}
+use Rattle.std.proofs.Common.{◌≡◌, ℕ, ◌<◌, ◌≤◌, Bool, true, false, eqb, ltb, leb, [], length, is_some, Some, None, Ok, Err, vec_items, vec_len, Option, sym, ap, subst, arith}
 use Rattle.std.proofs.lemmas.Bool.{ltb-true, ltb-false, leb-false, lt-ltb}
 use Rattle.refusal.specs.declared.Refusal.{Refusal}
 use Rattle.refusal.specs.declared.Refusal.TheVariants as refuses
 use Rattle.law.specs.declared.Round.{Round}
-use Rattle.law.specs.Book.{Book as Shown, Cluster as Group, at, count, entry, number, nobody, most_kept, most_messages, last_number}
+use Rattle.law.specs.Book.{Book as Shown, Cluster as Group, at, count, number, most_kept, most_messages, last_number}
 use Rattle.law.specs.Book.{unless_refused, replied}
 use Rattle.law.specs.Rounds.{request_refusal, request_at}
 use Rattle.store.specs.Table.{both}

@@ -1,12 +1,12 @@
 -- A node that may not answer is refused for the same reason by the protocol; and what a store answers is what its keep was refused for.
-use Rattle.std.proofs.Common.{◌≡◌, ℕ, suc, Bool, true, false, cond, ltb, get_or, is_some, Some, None, Ok, Err, Option, Result, sym, refl, ap, ◌∙◌, subst, ap₂, arith}
+use Rattle.std.proofs.Common.{◌≡◌, ℕ, Bool, true, false, cond, ltb, get_or, is_some, Some, None, Ok, Err, Option, Result, refl, arith}
 use Rattle.refusal.specs.declared.Refusal.{Refusal}
 use Rattle.refusal.specs.declared.Refusal.TheVariants as refuses
 use Rattle.refusal.specs.declared.StoreRefusal.{StoreRefusal}
 use Rattle.store.specs.Table.{answered as kept, unless}
 use Rattle.law.specs.declared.Round.{Round}
 use Rattle.law.specs.Book.{Book, at, count}
-use Rattle.law.specs.Rounds.{from_store, answer_refusal, answer_at, answer_keeps, noted}
+use Rattle.law.specs.Rounds.{from_store, answer_refusal, answer_at}
 use Rattle.federation.specs.Answerable.{answerable, unanswered}
 
 pub kept_none : (o : Option StoreRefusal) → Ok tt ≡ kept o → from_store o ≡ None

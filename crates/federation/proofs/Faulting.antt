@@ -1,5 +1,5 @@
 -- What a fault tells, with its ticket: the name and the count of the book that it leaves.
-use Rattle.std.proofs.Common.{◌≡◌, ℕ, suc, Some, None, Ok, Err, Option, Result, sym, refl, ap, ◌∙◌, ap₂, arith}
+use Rattle.std.proofs.Common.{◌≡◌, ℕ, Some, None, Ok, Err, Option, Result, ap, ap₂, arith}
 use Rattle.refusal.specs.declared.Refusal.{Refusal}
 use Rattle.law.specs.Book.{Book, Ticket, number, unless_refused, replied}
 use Rattle.law.specs.Restarts.{fault_refusal, faulted, fault_tells, fault_book, ticket}

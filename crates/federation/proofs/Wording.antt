@@ -1,12 +1,12 @@
 -- A buffer of 32 words suffices for every row of a store, so what is read is what the store holds.
-use Rattle.std.proofs.Common.{◌≡◌, ℕ, ◌≤◌, Bool, true, false, cond, leb, List, [], ◌∷◌, ◌++◌, length, take, drop, Some, None, Ok, Err, Option, Result, unwrap_or, sym, refl, ap, ◌∙◌, subst, ap₂, arith}
+use Rattle.std.proofs.Common.{◌≡◌, ℕ, ◌≤◌, Bool, true, false, cond, leb, List, [], ◌∷◌, length, take, drop, Some, None, Ok, Err, Option, Result, unwrap_or, sym, refl, ap, ◌∙◌, subst, ap₂, arith}
 use Rattle.std.proofs.lemmas.List.{take_at}
-use Rattle.std.proofs.lemmas.Bool.{leb-true, le-leb, cond-true, cond-false, cases_Bool}
+use Rattle.std.proofs.lemmas.Bool.{leb-true, le-leb, cond-true}
 use Rattle.refusal.specs.declared.Refusal.{Refusal}
 use Rattle.refusal.specs.declared.Refusal.TheVariants as refuses
 use Rattle.refusal.specs.declared.StoreRefusal.{StoreRefusal}
 use Rattle.refusal.specs.declared.StoreRefusal.TheVariants as store_refuses
-use Rattle.store.specs.Table.{TableRow, lookup, under, both, words_fit, told, unless, over, read_refused}
+use Rattle.store.specs.Table.{TableRow, lookup, under, words_fit, told, unless, over, read_refused}
 use Rattle.store.specs.Formed.{sized}
 use Rattle.store.proofs.Orders.{both_true}
 use Rattle.federation.specs.Told.{held}

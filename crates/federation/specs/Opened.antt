@@ -2,7 +2,6 @@
 --
 --   Opened   each case of the answer: opened exactly where the protocol opens, and memory suffices
 use Rattle.std.specs.Prelude.{◌≡◌, ℕ, Some, None, Ok, Err, Result}
-use Rattle.refusal.specs.declared.Refusal.{Refusal}
 use Rattle.store.specs.Table.{Model}
 use Rattle.law.specs.Opening.{open_refusal, open_book}
 use Rattle.federation.specs.declared.federation.Federation.{Federation}

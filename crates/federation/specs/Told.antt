@@ -2,7 +2,7 @@
 --
 --   told_list  the answer with what its list holds; told_words the same of words
 --   held       the words that the store holds, or its refusal
-use Rattle.std.specs.Prelude.{ℕ, List, Some, None, Ok, Err, Option, Result}
+use Rattle.std.specs.Prelude.{ℕ, List, Ok, Err, Option, Result}
 use Rattle.refusal.specs.declared.Refusal.{Refusal}
 use Rattle.law.specs.Book.{replied}
 use Rattle.law.specs.Storing.{held_by, words_held}

@@ -1,4 +1,6 @@
 // The calls of a restart unit.
+#![tactic(auto)]
+
 mod answers;
 mod cuts;
 mod federation;

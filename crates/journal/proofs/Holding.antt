@@ -1,15 +1,15 @@
 -- Records that lie where they are said to: bytes behind them do not matter, and moved together they hold the
 -- same rows.
-use Rattle.std.proofs.Common.{◌≡◌, ℕ, zero, suc, ◌+◌, ◌-◌, ◌*◌, ◌<◌, ◌≤◌, true, false, List, [], ◌∷◌, ◌++◌, map, length, get_or, take, drop, Some, None, Option, sym, refl, ap, ◌∙◌, subst, arith}
+use Rattle.std.proofs.Common.{◌≡◌, ℕ, zero, suc, ◌+◌, ◌*◌, ◌<◌, ◌≤◌, false, List, [], ◌∷◌, ◌++◌, map, length, get_or, take, drop, Some, None, Option, sym, refl, ap, ◌∙◌, subst, arith}
 use Rattle.std.proofs.lemmas.Bool.{cond-true, cond-false, cond_both}
-use Rattle.std.proofs.lemmas.List.{append_assoc, append-nil, length-append, length-take-le, length-drop, drop-append-le, take-append-le, take_at, drop_at}
+use Rattle.std.proofs.lemmas.List.{append_assoc, length-append, length-take-le, length-drop, drop-append-le, take-append-le, take_at, drop_at}
 use Rattle.std.specs.Option.{option_map}
 use Rattle.std.specs.List.{remove as removed}
 use Rattle.store.specs.Table.{TableRow, lookup, remove}
 use Rattle.store.specs.Seek.{same}
 use Rattle.records.specs.declared.Held.{Held}
 use Rattle.records.specs.Encode.{keep_bytes, rows_bytes}
-use Rattle.records.specs.Layout.{size_of, part, parts, row_from, row_in, moved, relaid, total, Laid}
+use Rattle.records.specs.Layout.{size_of, part, parts, row_from, row_in, relaid, total, Laid}
 use Rattle.records.specs.Order.{held_key, first_of}
 use Rattle.records.proofs.Compacting.{laid_bound}
 use Rattle.journal.specs.State.{Lie, Few}

@@ -1,12 +1,12 @@
 -- Rows put into a table one after another: the table holds what the rows hold, and a row taken out of the rows
 -- is taken out of the table. Both ask that no two rows stand under one cluster and number.
-use Rattle.std.proofs.Common.{◌≡◌, ℕ, zero, suc, ◌+◌, ◌<◌, ◌≤◌, Bool, true, false, cond, eqb, List, [], ◌∷◌, ◌++◌, length, is_some, Some, None, Option, sym, refl, ap, ◌∙◌, subst, inl, inr, arith}
+use Rattle.std.proofs.Common.{◌≡◌, ℕ, ◌+◌, true, false, cond, eqb, List, [], ◌∷◌, ◌++◌, length, is_some, Some, None, Option, sym, refl, ap, ◌∙◌, inl, inr, arith}
 use Rattle.std.proofs.lemmas.Bool.{cond-true, cond-false, cond_both, cases_Bool, both_ways, eqb-true}
 use Rattle.std.proofs.lemmas.Bool.Decides.{nat_tests}
-use Rattle.store.specs.Table.{TableRow, both, under, before, lookup, insert, remove}
+use Rattle.store.specs.Table.{TableRow, under, before, lookup, insert, remove}
 use Rattle.store.specs.Formed.{leads, rising}
 use Rattle.store.proofs.Orders.{both_true, under_own}
-use Rattle.store.proofs.Tables.{leads_on, none_parts, rising-insert, length-insert, remove_none, some_none}
+use Rattle.store.proofs.Tables.{leads_on, none_parts, rising-insert, length-insert, remove_none}
 use Rattle.records.specs.Order.{sort_onto, sort_rows}
 use Rattle.journal.specs.State.{Distinct}
 

@@ -1,14 +1,14 @@
 -- The four moves of a journal: a record more, a row forgotten, a drop noted, and all records moved together. Each
 -- is told by the records and the held places after it; that it leaves a sound journal follows from those.
-use Rattle.std.proofs.Common.{◌≡◌, ℕ, zero, suc, ◌+◌, ◌*◌, ◌<◌, ◌≤◌, true, leb, List, [], ◌∷◌, ◌++◌, map, length, take, drop, None, vec_items, vec_len, vec_capacity, sym, refl, ap, ◌∙◌, subst, arith}
+use Rattle.std.proofs.Common.{◌≡◌, ℕ, ◌+◌, ◌*◌, ◌<◌, ◌≤◌, leb, List, [], ◌∷◌, ◌++◌, map, length, take, drop, None, vec_items, vec_len, vec_capacity, sym, refl, ap, ◌∙◌, subst, arith}
 use Rattle.std.proofs.lemmas.Bool.{leb-true}
 use Rattle.std.proofs.lemmas.List.{append-nil, map-append, length-map, length-take-le, take-append-drop, take_all, drop_at}
 use Rattle.std.specs.List.{remove as removed}
-use Rattle.store.specs.Table.{TableRow, Model, lookup, insert, remove, keep_refusal, keep_model, drop_model}
+use Rattle.store.specs.Table.{TableRow, Model, insert, remove, keep_refusal, keep_model, drop_model}
 use Rattle.store.specs.Formed.{Formed}
 use Rattle.store.proofs.Orders.{both_true}
 use Rattle.store.proofs.Edits.{map_removed}
-use Rattle.store.proofs.Tables.{new_row, Allowed, allowed, keep_allowed, formed_keep, formed-drop}
+use Rattle.store.proofs.Tables.{new_row, allowed, keep_allowed, formed_keep, formed-drop}
 use Rattle.records.specs.declared.Held.{Held}
 use Rattle.records.specs.Encode.{keep_bytes, rows_bytes, words_bytes, words_in}
 use Rattle.records.specs.Layout.{size_of, part, parts, row_from, row_in, relaid, total, Laid}
@@ -18,7 +18,7 @@ use Rattle.records.proofs.Ordering.{sort_push}
 use Rattle.journal.specs.declared.Journal.{Journal}
 use Rattle.journal.specs.State.{records_of, rows_of, journal_model, Distinct, Lie, Few, JournalSound}
 use Rattle.journal.proofs.Sorting.{lookup_sort, length_onto, remove_sort, distinct_push, distinct_remove}
-use Rattle.journal.proofs.Holding.{same_rows, same_lie, same_few, same_more, same_relaid, parts_front, parts_rows, total-few, laid-relaid, laid_wider, laid_push, laid_removed, lie_push, lie_removed, few_push, few_removed, FirstHeld}
+use Rattle.journal.proofs.Holding.{same_rows, same_lie, same_few, same_more, same_relaid, parts_front, parts_rows, total-few, laid-relaid, laid_wider, laid_push, laid_removed, lie_push, lie_removed, few_push, few_removed}
 
 abbrev model_of : List TableRow → Model
 model_of rows = record { table = sort_rows rows; capacity = 64; full = 0 }

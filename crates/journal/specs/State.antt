@@ -9,7 +9,7 @@
 --   Lie           each held row's record stands where it is said to
 --   Few           each has at most 32 words
 --   JournalSound  all of that, and the memory for 64 rows is reserved
-use Rattle.std.specs.Prelude.{◌≡◌, ℕ, ◌+◌, ◌*◌, ◌≤◌, cond, List, [], ◌∷◌, ◌++◌, map, length, take, None, vec_items, vec_capacity, nat_le}
+use Rattle.std.specs.Prelude.{◌≡◌, ℕ, ◌+◌, ◌≤◌, cond, List, [], ◌∷◌, ◌++◌, map, length, take, None, vec_items, vec_capacity, nat_le}
 use Rattle.store.specs.Table.{TableRow, Model, lookup, remove}
 use Rattle.store.specs.Formed.{Formed}
 use Rattle.records.specs.declared.Held.{Held}

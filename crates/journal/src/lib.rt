@@ -1,5 +1,7 @@
 // A store in bytes that are lent to it: a record is written for every row that is kept or dropped, and
 // when one does not fit, only the records of the rows that are held stay, oldest first.
+#![tactic(auto)]
+
 ghost use Rattle.std.specs.Prelude.{◌≡◌, ◌+◌, ◌*◌, ◌≤◌, [], ◌∷◌, ◌++◌, length, is_some, IfSome, if◌then◌else◌, Some, None, MatchResult, nat_eq, nat_le};
 ghost use Rattle.std.specs.Option.{option_map};
 ghost use Rattle.store.specs.Table.{lookup, remove, row_at, keep_refusal, keep_model, drop_refusal, drop_model, answered, told, unless, over, read_refused};

@@ -1,7 +1,7 @@
 -- Final places are closed under chains: whatever a struck event reaches is struck.
 use Rattle.std.proofs.Common.{◌≡◌, ℕ, ◌<◌, ◌≤◌, List, [], ◌∷◌, ap, subst, inl, inr, arith}
 use Rattle.law.specs.declared.Message.{Message}
-use Rattle.law.specs.Events.{Event, Lists, sent, got, ◌∈◌, After, back, number}
+use Rattle.law.specs.Events.{Event, Lists, sent, got, ◌∈◌, After, back}
 use Rattle.law.specs.Chains.{Chain, itself, later, delivered}
 use Rattle.law.proofs.Lists.{after-part, stands_or_after, later-after}
 use Rattle.law.proofs.Facts.{Messages, Rows}

@@ -2,7 +2,6 @@
 use Rattle.std.proofs.Common.{◌≡◌, ℕ, suc, ◌<◌, ◌≤◌, Bool, true, ltb, leb, ◌⊎◌, List, length, get_or, take, Some, None, sym, refl, ap, ◌∙◌, subst, inl, inr, arith, length-take, get_or-take}
 use lib.ListN.{get_or-map, get_or-eq_default}
 use Rattle.std.proofs.lemmas.Bool.{cases_lt, true≢false, ltb-true, ltb-false, le-leb, leb-true}
-use Rattle.refusal.specs.declared.Refusal.TheVariants as refuses
 use Rattle.store.specs.Table.{lookup}
 use Rattle.law.specs.declared.Checkpoint.{Checkpoint}
 use Rattle.law.specs.declared.Restart.{Restart}

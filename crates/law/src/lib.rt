@@ -1,5 +1,7 @@
 // The protocol of the restart unit, defined once. Nothing runs here: the plain records of the book are declared, with the
 // keys by which they are found; specs/ says what every call does to them and what the whole promises, and proofs/ shows it.
+#![tactic(auto)]
+
 ghost use Rattle.law.specs.WorkedRuns.{WorkedRuns};
 ghost use Rattle.law.specs.Law.{LawOfLostWork};
 ghost use Rattle.law.specs.Slips.{Slips};

@@ -1,5 +1,7 @@
 // Reads a run list from standard input and prints what it says: a line for each command, whether the list is accepted,
 // and that its commands, written again, are the same bytes.
+#![tactic(auto)]
+
 use anyhow::anyhow;
 use runlist::{MOST_BYTES, ReadError, Reader};
 use std::env;

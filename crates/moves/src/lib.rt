@@ -1,5 +1,7 @@
 // What can be done with any store through its own calls: see whether it holds a row, empty it, fill it
 // from another, and keep within a limit that is not its own.
+#![tactic(auto)]
+
 ghost use Rattle.std.specs.Prelude.{◌≡◌, ◌+◌, ◌<◌, ◌≤◌, [], length, take, drop, is_some};
 ghost use Rattle.store.specs.Table.{lookup, with_table, keep_refusal, keep_model, drop_refusal, drop_model, answered};
 ghost use Rattle.store.specs.Formed.{Formed};

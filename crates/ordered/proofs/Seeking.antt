@@ -1,8 +1,8 @@
 -- The search goes over a front of smaller keys, so it stands where `seek` stops; and what `seek` answers has its
 -- meaning in an ascending list, since every key behind a larger one is larger too. Only the order of numbers is used.
-use Rattle.std.proofs.Common.{◌≡◌, ℕ, zero, suc, ◌<◌, ◌≤◌, Bool, true, false, cond, ◌&&◌, eqb, ltb, List, [], ◌∷◌, length, get_or, Ok, Err, Result, sym, refl, ap, ◌∙◌, subst, arith}
+use Rattle.std.proofs.Common.{◌≡◌, ℕ, zero, suc, ◌<◌, ◌≤◌, true, eqb, ltb, List, [], ◌∷◌, length, get_or, Ok, Err, Result, sym, refl, ap, ◌∙◌, subst, arith}
 use Rattle.std.proofs.lemmas.Bool.{lt-ltb, le-ltb, ltb-true, ltb-false, eq-eqb, ne_eqb, eqb-true, eqb-false, cond-true, cond-false, cond_both, and_parts}
-use Rattle.std.specs.List.{HoldsAt, AllWithin}
+use Rattle.std.specs.List.{AllWithin}
 use Rattle.ordered.specs.Seek.{seek, onward, leads, ascending, Sought}
 
 module _ {X : Type 0} (key : X → ℕ) where

@@ -5,7 +5,7 @@
 --   leads      a record's key is below that of the first of the others
 --   ascending  each key is below the next
 --   Sought     what the answer means in an ascending list
-use Rattle.std.specs.Prelude.{◌≡◌, ℕ, suc, ◌<◌, ◌≤◌, Bool, true, false, cond, ◌&&◌, List, [], ◌∷◌, length, Ok, Err, Result, ◌==◌, nat_lt}
+use Rattle.std.specs.Prelude.{◌≡◌, ℕ, suc, ◌<◌, ◌≤◌, Bool, true, cond, ◌&&◌, List, [], ◌∷◌, length, Ok, Err, Result, ◌==◌, nat_lt}
 use Rattle.std.specs.List.{HoldsAt, AllWithin}
 
 abbrev pub onward : Result ℕ ℕ → Result ℕ ℕ

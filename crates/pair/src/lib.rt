@@ -1,5 +1,7 @@
 // Two stores as one, the way two neighbours keep copies of each other: every row is kept by both, and one
 // of the sides can be lost and rebuilt from the other. A pair is itself a store, so pairs nest.
+#![tactic(auto)]
+
 ghost use Rattle.std.specs.Prelude.{◌≡◌, min, [], Decides};
 ghost use Rattle.store.specs.Agree.{Agree};
 ghost use Rattle.moves.specs.Limit.{limited};

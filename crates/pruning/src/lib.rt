@@ -1,5 +1,7 @@
 // What leaves the book, the log and the store when clusters go back to their places, and when what no later fault can need
 // is collected.
+#![tactic(auto)]
+
 ghost use Rattle.std.specs.Prelude.{◌≡◌, true, vec_len, slice_index};
 ghost use Rattle.law.specs.Restarts.{back_to};
 ghost use Rattle.law.specs.Trials.{from_bounds};

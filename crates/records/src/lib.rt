@@ -1,5 +1,7 @@
 // The records of a journal as bytes: written one behind another, read back, and moved together when the
 // journal is full of records that no longer count.
+#![tactic(auto)]
+
 ghost use Rattle.std.specs.Prelude.{◌≡◌, ℕ, ◌+◌, ◌*◌, ◌≤◌, List, ◌++◌, length, take, drop};
 ghost use Rattle.std.proofs.Math.Seq.{paste};
 ghost use Rattle.store.specs.Table.{over};

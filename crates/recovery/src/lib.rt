@@ -1,5 +1,7 @@
 // How far back each cluster goes: an alert is carried, the restart is drained of its alerts, and a fault is tried without
 // being made.
+#![tactic(auto)]
+
 mod alerts;
 mod places;
 mod simulate;

@@ -1,5 +1,7 @@
 // Every refusal of the product, in one place: its number, its layer, the side of a store that it names,
 // and what it says to a person. A number never changes its meaning: rig makers store it in their logs.
+#![tactic(auto)]
+
 ghost use Rattle.std.specs.Prelude.{◌≡◌, Some};
 ghost use Rattle.refusal.specs.Refusals.{number_of, layer_of, layer_letter, letter_of, side_of, store_side, words_of, store_words};
 

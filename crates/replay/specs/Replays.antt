@@ -11,7 +11,6 @@ use Rattle.law.specs.Messages.{Rule}
 use Rattle.law.specs.Calls.{run, after}
 use Rattle.law.specs.History.{history, new_told}
 use Rattle.law.specs.Law.{Law}
-use Rattle.federation.specs.declared.federation.Federation.{Federation}
 use Rattle.federation.specs.Opened.{Opened}
 use Rattle.federation.specs.Shown.{shown}
 use Rattle.replay.specs.declared.exchange.Call.{Call}

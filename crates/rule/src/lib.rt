@@ -1,4 +1,6 @@
 // Forcing rules: whether a message may be delivered at once, or its receiver has to take a checkpoint first.
+#![tactic(auto)]
+
 ghost use Rattle.std.specs.Prelude.{◌≡◌, ℕ};
 ghost use Rattle.law.specs.Messages.{Rule, Meaning, on_news, always as at_every};
 ghost use Rattle.std.proofs.Common.{rules};

@@ -1,9 +1,9 @@
 -- The items that a reader has given so far, with those still to come, are all the items of the list.
-use Rattle.std.proofs.Common.{◌≡◌, ℕ, ◌≤◌, List, [], ◌∷◌, ◌++◌, length, Some, None, sym, ap, ◌∙◌, append_assoc, append-nil, arith}
+use Rattle.std.proofs.Common.{◌≡◌, ℕ, List, [], ◌∷◌, ◌++◌, length, Some, sym, ap, ◌∙◌, append_assoc, append-nil, arith}
 use Rattle.runlist.specs.declared.reader.RefusedAt.{RefusedAt}
 use Rattle.runlist.specs.Format.{Item}
 use Rattle.runlist.specs.Laws.{items_of}
-use Rattle.runlist.specs.Lists.{Place, Reading, Writing, read_list, write_list}
+use Rattle.runlist.specs.Lists.{Place, Reading, read_list, write_list}
 use Rattle.runlist.specs.Reads.{nothing, refusal, placed, Step, Commands}
 use Rattle.runlist.proofs.Reading.{gave_item, gave_refusal, gave_nothing}
 use Rattle.runlist.proofs.RoundTrip.{written-again}

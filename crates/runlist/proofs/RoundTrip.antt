@@ -1,17 +1,17 @@
 -- Reading undoes writing, item by item, and writing undoes reading: each item's bytes are a letter and operands of its
 -- width, so the reader finds the same item there, and goes on where the writer went on.
-use Rattle.std.proofs.Common.{◌≡◌, ℕ, zero, suc, ◌+◌, ◌<◌, ◌≤◌, Bool, true, false, cond, eqb, ltb, leb, List, [], ◌∷◌, ◌++◌, length, take, drop, Some, None, Ok, Err, Option, sym, refl, ap, ◌∙◌, subst, append-nil, add-zero, arith, length-append, take-append-drop, length-take-le, take_at, drop_at}
+use Rattle.std.proofs.Common.{◌≡◌, ℕ, zero, suc, ◌+◌, ◌≤◌, Bool, true, false, cond, ltb, leb, List, [], ◌∷◌, ◌++◌, length, take, drop, Some, None, Ok, Err, Option, sym, refl, ap, ◌∙◌, subst, add-zero, arith, length-append, take-append-drop, length-take-le, take_at, drop_at}
 use Rattle.std.proofs.lemmas.Bool.{cond-true, cond-false, le-leb, leb-true, lt-ltb, eqb-true, eq-eqb}
 use Rattle.refusal.specs.declared.Refusal.{Refusal}
-use Rattle.refusal.specs.declared.Refusal.TheVariants.{CutShort, OpenMisplaced, ListTooLong, NoRoom}
+use Rattle.refusal.specs.declared.Refusal.TheVariants.{CutShort, OpenMisplaced}
 use Rattle.runlist.specs.declared.reader.RefusedAt.{RefusedAt}
 use Rattle.runlist.specs.Format.{Item, width_of}
-use Rattle.runlist.specs.Lists.{Next, end, refuse, command, Place, Reading, misplaced, next_of_width, next, after_next, read_on, read_list, ended_by, too_long, bytes, has_width, whole, append_refusal, Writing, after_append, write_on, write_list, overwritten}
+use Rattle.runlist.specs.Lists.{Next, end, refuse, command, Reading, misplaced, next_of_width, next, after_next, read_on, read_list, ended_by, too_long, bytes, has_width, whole, append_refusal, Writing, after_append, write_on, write_list, overwritten}
 use Rattle.runlist.specs.Reads.{ended_or}
 use Rattle.runlist.specs.Writes.{written}
 use Rattle.runlist.specs.Laws.{places_from, whole_of, items_of, ReadsBack, WrittenAgain, RoundTrip}
 use Rattle.runlist.proofs.Reading.{read_skip}
-use Rattle.runlist.proofs.Writing.{Appended, appended}
+use Rattle.runlist.proofs.Writing.{appended}
 
 -- a writing that no refusal ended has appended its first item
 unended : (len : ℕ) (o : Option Refusal) (new : List ℕ) (more : Writing) → (after_append len o new more).ended ≡ None → o ≡ None

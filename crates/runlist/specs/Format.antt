@@ -5,7 +5,7 @@
 --   width_of     how many operand bytes follow a letter; none where no command has the letter
 --   number      bytes as an unsigned number, high byte first
 --   operands_of  the typed operands of a command whose operands have the right width
-use Rattle.std.specs.Prelude.{ℕ, ◌+◌, ◌*◌, Bool, true, false, cond, List, [], ◌∷◌, length, Some, None, codes, Option, ◌==◌, slice_index}
+use Rattle.std.specs.Prelude.{ℕ, ◌+◌, ◌*◌, cond, List, [], ◌∷◌, length, Some, None, Option, ◌==◌, slice_index}
 use Rattle.std.specs.List.{between}
 use Rattle.runlist.specs.declared.command.Command.{Command}
 use Rattle.runlist.specs.declared.command.Command.TheVariants as command

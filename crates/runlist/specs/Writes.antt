@@ -2,7 +2,7 @@
 --
 --   answered    the answer of an append
 --   written     the answer of a whole list written: how many bytes, or the refusal and how many bytes stand before it
-use Rattle.std.specs.Prelude.{ℕ, List, length, Some, None, Ok, Err, Option, Result}
+use Rattle.std.specs.Prelude.{ℕ, length, Some, None, Ok, Err, Option, Result}
 use Rattle.refusal.specs.declared.Refusal.{Refusal}
 use Rattle.runlist.specs.declared.reader.RefusedAt.{RefusedAt}
 use Rattle.runlist.specs.Lists.{Writing}

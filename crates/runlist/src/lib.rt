@@ -1,5 +1,7 @@
 // Run lists: a reader that gives a list's commands one by one, and a writer that appends commands to a lent buffer.
 // Both are proved equal to one definition of the format, and each to undo the other.
+#![tactic(auto)]
+
 mod command;
 mod lists;
 mod reader;

@@ -1,3 +1,5 @@
+#![tactic(auto)]
+
 // Tests of run lists, with expected values written by hand from docs/FORMAT.md.
 #[cfg(test)]
 mod reading;

@@ -1,5 +1,7 @@
 // A store without sides, taken for one that could have some: every side asked for is no side of it. So what is written for stores
 // with sides serves every store.
+#![tactic(auto)]
+
 use refusal::StoreRefusal;
 use store::{RowKey, SidedStore, Store};
 

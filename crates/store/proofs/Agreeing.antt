@@ -1,12 +1,12 @@
 -- Two rising tables that hold the same pairs have the same first row: else the smaller of the two would be ahead
 -- of everything in the other table. So the pairs are the same exactly when they are the same row by row.
-use Rattle.std.proofs.Common.{◌≡◌, ℕ, zero, suc, ◌<◌, ◌≤◌, Bool, true, false, cond, ◌⊎◌, List, [], ◌∷◌, length, is_some, Some, None, Decides, Option, sym, refl, ap, ◌∙◌, subst, inl, inr, arith}
+use Rattle.std.proofs.Common.{◌≡◌, ℕ, zero, suc, ◌<◌, Bool, true, false, ◌⊎◌, List, [], ◌∷◌, length, is_some, Some, Decides, sym, refl, ap, ◌∙◌, inl, inr, arith}
 use Rattle.std.proofs.lemmas.Bool.{cond-true, cond-false, cases_Bool, both_ways}
 use Rattle.std.proofs.lemmas.Bool.Decides.{nat_tests}
 use Rattle.store.specs.Table.{TableRow, both, under, before, lookup, row_at}
 use Rattle.store.specs.Formed.{leads, rising}
 use Rattle.store.specs.Agree.{Agree, agreeing, same_key}
-use Rattle.store.proofs.Orders.{both_true, both_from, both_false, before-under, under_own}
+use Rattle.store.proofs.Orders.{both_true, both_from, both_false, under_own}
 use Rattle.store.proofs.Tables.{lookup-ahead}
 
 -- row by row

@@ -1,7 +1,7 @@
 -- The order of rows, by cluster, then number, is a strict total order: each fact splits the tests of the numbers.
-use Rattle.std.proofs.Common.{◌≡◌, ℕ, ◌<◌, Bool, true, false, eqb, ltb, [], refl, arith}
+use Rattle.std.proofs.Common.{◌≡◌, ℕ, Bool, true, false, [], refl, arith}
 use Rattle.std.proofs.lemmas.Bool.Decides.{nat_tests}
-use Rattle.store.specs.Table.{TableRow, both, either, under, before}
+use Rattle.store.specs.Table.{TableRow, both, under, before}
 
 -- what a test of two parts tells
 pub both_true : (a b : Bool) → both a b ≡ true → (a ≡ true) × (b ≡ true)

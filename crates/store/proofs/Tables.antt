@@ -1,10 +1,10 @@
 -- Rows that rise: nothing is held ahead of the first, so the place that `seek` finds tells at once what is held,
 -- where a row goes in and which one comes out; and a row more or less leaves a table formed.
-use Rattle.std.proofs.Common.{◌≡◌, ℕ, zero, suc, ◌<◌, ◌≤◌, Bool, true, false, cond, leb, List, [], ◌∷◌, length, get_or, take, is_some, Some, None, Ok, Err, Option, Result, sym, refl, ap, ◌∙◌, subst, arith}
-use Rattle.std.proofs.lemmas.Bool.{cond-true, cond-false, cond_both, leb-true, leb-false, lt-leb}
+use Rattle.std.proofs.Common.{◌≡◌, ℕ, zero, suc, ◌<◌, ◌≤◌, Bool, true, false, cond, leb, List, [], ◌∷◌, length, get_or, take, is_some, Some, None, Ok, Err, Option, Result, refl, ap, ◌∙◌, subst, arith}
+use Rattle.std.proofs.lemmas.Bool.{cond-true, cond-false, cond_both, leb-false, lt-leb}
 use Rattle.std.specs.List.{insert as inserted, remove as removed}
 use Rattle.refusal.specs.declared.StoreRefusal.{StoreRefusal}
-use Rattle.store.specs.Table.{TableRow, Model, both, under, before, lookup, insert, remove, words_fit, keep_refusal, keep_model, drop_model, unless, with_table, key_of, row_at}
+use Rattle.store.specs.Table.{TableRow, Model, under, before, lookup, insert, remove, words_fit, keep_refusal, keep_model, drop_model, unless, with_table, key_of, row_at}
 use Rattle.store.specs.Formed.{leads, rising, sized, Formed}
 use Rattle.store.specs.Seek.{seek, onward}
 use Rattle.store.proofs.Orders.{both_true, both_from, before-under, before_trans, before-total, after-under, after-before, under_own}

@@ -1,5 +1,7 @@
 // The interface of every store: a table from cluster and number to words, proved against one meaning, so
 // that whatever is built on it is proved once for all stores. A store's maker implements `Store`.
+#![tactic(auto)]
+
 ghost use Rattle.std.specs.Prelude.{◌≡◌, ℕ, length};
 ghost use Rattle.store.specs.Table.{Model, keep_refusal, keep_model, drop_refusal, drop_model, answered, told, read_refusal, read_count, read_buffer, position_at};
 ghost use Rattle.store.specs.Formed.{Formed};

@@ -1,5 +1,7 @@
 // Drives stores of every kind through the same calls, two at a time, and compares their answers and their
 // tables after every call.
+#![tactic(auto)]
+
 use anyhow::anyhow;
 use calls::Calls;
 use drive::{Run, lockstep};

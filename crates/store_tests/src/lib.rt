@@ -1,3 +1,5 @@
+#![tactic(auto)]
+
 // Tables of calls with the letters that they answer, tried on stores of every kind.
 #[cfg(test)]
 mod cases;

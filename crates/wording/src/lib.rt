@@ -1,4 +1,6 @@
 // What commands and verdicts say to a person: one line of text each.
+#![tactic(auto)]
+
 ghost use Rattle.std.specs.Prelude.{◌≡◌, ◌<◌, IfOk, string_bytes};
 ghost use Rattle.runlist.specs.Format.{operands_of};
 ghost use Rattle.wording.specs.Words.{hex_of, word_bytes, mark_of, operands_text, line_of, verdict_of, again_of, digit_of};

@@ -1,5 +1,5 @@
 -- the row at a position is read whole, and goes behind those before it
-use Rattle.std.proofs.Common.{◌≡◌, ◌-◌, ◌≤◌, take, replicate, refl, ap, ◌∙◌, arith}
+use Rattle.std.proofs.Common.{◌≡◌, ◌-◌, take, replicate, ap, ◌∙◌, arith}
 use Rattle.moves.proofs.Moving.{row_there, read_there, copied}
 use Rattle.moves.proofs.copy_row.Goals as goal
 

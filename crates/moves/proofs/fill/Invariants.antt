@@ -1,7 +1,6 @@
 -- rows copied so far
-use Rattle.std.proofs.Common.{◌≡◌, length, take}
+use Rattle.std.proofs.Common.{◌≡◌, take}
 use Rattle.store.specs.Table.{with_table}
-use Rattle.store.specs.Formed.{Formed}
 use Rattle.moves.proofs.fill.Given as goal
 
 -- the rows before this position have come over

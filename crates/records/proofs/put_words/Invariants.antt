@@ -1,5 +1,5 @@
 -- words written so far
-use Rattle.std.proofs.Common.{◌≡◌, ◌+◌, ◌*◌, ◌++◌, length, take}
+use Rattle.std.proofs.Common.{◌≡◌, ◌+◌, ◌*◌, ◌++◌, take}
 use Rattle.records.specs.Encode.{words_bytes}
 use Rattle.records.proofs.put_words.Given as goal
 

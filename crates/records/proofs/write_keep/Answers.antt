@@ -1,5 +1,5 @@
 -- the parts of a record stand one behind another
-use Rattle.std.proofs.Common.{◌≡◌, ℕ, List, [], ◌∷◌, ◌++◌, length, take, ap, ◌∙◌, arith}
+use Rattle.std.proofs.Common.{◌≡◌, [], ◌∷◌, ◌++◌, length, take, ap, ◌∙◌, arith}
 use Rattle.records.specs.Encode.{be4, words_bytes}
 use Rattle.records.proofs.Words.{words_in-bytes}
 use Rattle.records.proofs.Moves.{joined_front}

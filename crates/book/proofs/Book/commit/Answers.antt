@@ -1,4 +1,4 @@
-use Rattle.std.proofs.Common.{◌≡◌, ◌<◌, true, is_some, vec_items, sym, refl, ap, subst, arith}
+use Rattle.std.proofs.Common.{◌≡◌, true, is_some, vec_items, sym, refl, ap, subst, arith}
 use Rattle.law.specs.Book.{Cluster as Group, with_clusters}
 use Rattle.law.specs.Rounds.{saved}
 use Rattle.book.specs.View.{view}

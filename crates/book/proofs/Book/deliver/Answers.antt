@@ -1,14 +1,10 @@
 -- the message at the place goes between clusters that exist, and so its receiver can be changed
-use Rattle.std.proofs.Common.{◌≡◌, ℕ, ◌<◌, ◌≤◌, true, List, map, length, get_or, vec_items, vec_len, sym, refl, ap, ◌∙◌, subst, ap₂, arith}
-use Rattle.std.proofs.lemmas.List.{get_or_read}
-use Rattle.store.specs.Table.{Model}
-use Rattle.law.specs.declared.Logged.{Logged}
+use Rattle.std.proofs.Common.{◌≡◌, ℕ, ◌<◌, map, vec_items, vec_len, sym, ap, ◌∙◌, subst, ap₂, arith}
 use Rattle.law.specs.declared.Message.{Message}
 use Rattle.law.specs.Book.{Book as Shown, Cluster as Group, with_log, with_cluster, entry, number, at}
 use Rattle.law.specs.Messages.{receive as received, deliver}
-use Rattle.book.specs.declared.Book.{Book}
-use Rattle.book.specs.Sound.{sound, is_between}
-use Rattle.book.specs.Logs.{message_at, no_logged, heard_from}
+use Rattle.book.specs.Sound.{is_between}
+use Rattle.book.specs.Logs.{message_at, heard_from}
 use Rattle.book.specs.View.{view}
 use Rattle.book.proofs.Groups.{group_at}
 use Rattle.book.proofs.Delivering.{message_read, between-read, two_of}

@@ -1,6 +1,6 @@
-use Rattle.std.proofs.Common.{◌≡◌, ℕ, ◌+◌, ◌<◌, List, [], length, get_or, set, None, vec_len, sym, refl, ap, ◌∙◌, subst, ap₂, add-one, arith, length-set}
+use Rattle.std.proofs.Common.{◌≡◌, ℕ, ◌<◌, [], length, None, sym, ap, ◌∙◌, add-one, arith, length-set}
 use Rattle.store.specs.Table.{Model}
-use Rattle.law.specs.Book.{Book as Shown, Cluster as Group, with_clusters, with_cluster, with_round, at, nobody}
+use Rattle.law.specs.Book.{Book as Shown, with_clusters, with_cluster, with_round, at}
 use Rattle.book.specs.View.{view, groups}
 use Rattle.book.proofs.Groups.{shown_len}
 use Rattle.book.proofs.Dropping.{dropped, dropped_more, dropped_all}

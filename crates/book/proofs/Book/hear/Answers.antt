@@ -1,4 +1,4 @@
-use Rattle.std.proofs.Common.{◌≡◌, ◌<◌, vec_items, vec_len, refl, ap, arith}
+use Rattle.std.proofs.Common.{vec_items, vec_len, refl, ap, arith}
 use Rattle.law.specs.Book.{with_clusters}
 use Rattle.book.specs.Logs.{heard_from}
 use Rattle.book.specs.View.{view}

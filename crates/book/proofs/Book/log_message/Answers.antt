@@ -1,7 +1,7 @@
-use Rattle.std.proofs.Common.{◌≡◌, ℕ, suc, ◌+◌, ◌<◌, true, List, [], ◌∷◌, ◌++◌, length, get_or, None, vec_items, vec_len, vec_capacity, sym, refl, ap, ◌∙◌, subst, ap₂, add-one, arith}
+use Rattle.std.proofs.Common.{◌≡◌, ℕ, ◌+◌, true, List, [], ◌∷◌, ◌++◌, vec_items, vec_len, sym, refl, ap, ◌∙◌, subst, ap₂, add-one, arith}
 use Rattle.ordered.specs.Seek.{ascending}
 use Rattle.law.specs.declared.Logged.{Logged}
-use Rattle.law.specs.Book.{Book as Shown, Cluster as Group, with_log, with_next_id, entry, number}
+use Rattle.law.specs.Book.{Cluster as Group, with_log, with_next_id, entry, number}
 use Rattle.law.specs.Messages.{undelivered}
 use Rattle.book.specs.Sound.{id_of, ids_below, addressed}
 use Rattle.book.specs.View.{view}

@@ -1,13 +1,11 @@
-use Rattle.std.proofs.Common.{◌≡◌, ℕ, ◌<◌, true, List, [], map, length, get_or, None, vec_items, vec_len, sym, refl, ap, ◌∙◌, subst, ap₂, arith}
+use Rattle.std.proofs.Common.{ℕ, List, length, None, vec_items, vec_len, sym, ap, ◌∙◌, subst, ap₂, arith}
 use Rattle.std.proofs.lemmas.List.{length-map}
 use Rattle.ordered.specs.Seek.{ascending}
 use Rattle.law.specs.declared.Logged.{Logged}
-use Rattle.law.specs.Book.{Cluster as Group, Book as Shown}
-use Rattle.law.specs.Opening.{first_clusters}
+use Rattle.law.specs.Book.{Cluster as Group}
 use Rattle.law.proofs.Opened.{first_count}
-use Rattle.book.specs.declared.Cluster.{Cluster}
 use Rattle.book.specs.Sound.{id_of, ids_below, addressed, ClusterSound}
-use Rattle.book.specs.View.{group, new_book}
+use Rattle.book.specs.View.{group}
 use Rattle.book.proofs.Soundness.{sound_is, each_sound}
 use Rattle.book.proofs.Book.new.Goals as goal
 

@@ -1,4 +1,4 @@
-use Rattle.std.proofs.Common.{◌≡◌, ◌<◌, true, length, is_some, vec_items, sym, refl, ap, subst, arith}
+use Rattle.std.proofs.Common.{◌≡◌, true, length, is_some, vec_items, sym, refl, ap, subst, arith}
 use Rattle.law.specs.Book.{Cluster as Group, with_clusters, with_round, entry}
 use Rattle.book.specs.Sound.{can_end}
 use Rattle.book.specs.View.{view}

@@ -1,14 +1,11 @@
 -- the round that ends had room for its checkpoint and a number
-use Rattle.std.proofs.Common.{◌≡◌, ℕ, suc, ◌+◌, ◌<◌, true, List, [], ◌∷◌, ◌++◌, length, get_or, set, is_some, None, vec_items, vec_len, vec_capacity, sym, refl, ap, ◌∙◌, subst, add-one, arith, rules}
+use Rattle.std.proofs.Common.{◌≡◌, ℕ, ◌+◌, ◌<◌, true, List, [], ◌∷◌, ◌++◌, set, is_some, None, vec_items, sym, refl, ap, ◌∙◌, subst, add-one, arith, rules}
 use Rattle.std.proofs.lemmas.List.{get_or-set_same}
 use Rattle.law.specs.declared.Checkpoint.{Checkpoint}
-use Rattle.law.specs.Book.{Cluster as Group, entry, most_kept, last_number}
-use Rattle.law.specs.Rounds.{saved}
-use Rattle.book.specs.declared.Cluster.{Cluster}
+use Rattle.law.specs.Book.{Cluster as Group, entry}
 use Rattle.std.specs.List.{AllByRecursion as All}
 use Rattle.ordered.specs.Seek.{ascending}
 use Rattle.book.specs.Sound.{number_of, topped}
-use Rattle.book.specs.View.{group}
 use Rattle.book.proofs.Soundness.{cluster_is_sound, sound-cluster}
 use Rattle.book.proofs.Rising.{can_end_lem, topped-below, topped_push, ascending_push}
 use Rattle.book.proofs.Cluster.commit.Goals as goal

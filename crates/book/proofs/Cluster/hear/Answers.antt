@@ -1,7 +1,7 @@
 -- the entry of another cluster: the cluster's own number stays as it is
-use Rattle.std.proofs.Common.{◌≡◌, ℕ, true, ltb, ◌≢◌, List, set, is_some, vec_items, vec_len, sym, refl, ap, ◌∙◌, subst, arith}
+use Rattle.std.proofs.Common.{◌≡◌, ℕ, true, ltb, ◌≢◌, List, set, is_some, vec_items, vec_len, sym, ap, subst}
 use Rattle.std.proofs.lemmas.List.{get_or-set_other}
-use Rattle.std.proofs.lemmas.Bool.{cond-true, cond-false, lt-ltb, le-ltb}
+use Rattle.std.proofs.lemmas.Bool.{cond-true, lt-ltb}
 use Rattle.law.specs.Book.{Cluster as Group, entry}
 use Rattle.book.specs.Sound.{topped, can_end}
 use Rattle.book.proofs.Soundness.{cluster_is_sound, sound-cluster}

@@ -1,8 +1,7 @@
-use Rattle.std.proofs.Common.{◌≡◌, ℕ, true, List, [], ◌∷◌, ◌++◌, map, vec_items, sym, refl, ap, ◌∙◌, subst, ap₂, add-one, arith}
+use Rattle.std.proofs.Common.{◌≡◌, ℕ, true, List, [], ◌∷◌, ◌++◌, map, vec_items, sym, ap, ◌∙◌, subst, ap₂, add-one, arith}
 use Rattle.std.proofs.lemmas.List.{map_push}
 use Rattle.law.specs.Book.{Cluster as Group}
-use Rattle.law.specs.Opening.{first_clusters, first_cluster}
-use Rattle.book.specs.declared.Cluster.{Cluster}
+use Rattle.law.specs.Opening.{first_clusters}
 use Rattle.book.specs.Sound.{cluster_sound, clusters_sound}
 use Rattle.book.specs.View.{group}
 use Rattle.book.proofs.Soundness.{clusters_push}

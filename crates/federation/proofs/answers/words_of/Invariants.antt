@@ -1,4 +1,4 @@
-use Rattle.std.proofs.Common.{◌≡◌, ℕ, ◌<◌, map, length, take}
+use Rattle.std.proofs.Common.{◌≡◌, map, length, take}
 use Rattle.law.specs.Book.{or_zero}
 use Rattle.federation.proofs.answers.words_of.Given as goal
 

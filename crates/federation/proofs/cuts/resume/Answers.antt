@@ -1,7 +1,7 @@
 -- past both tests the restart is open, settled and the ticket's own, so nothing is refused
 use Rattle.std.proofs.Common.{◌≡◌, ℕ, List, None, sym, ap, ◌∙◌, ap₂}
 use Rattle.std.proofs.lemmas.Bool.{not-false}
-use Rattle.law.specs.Book.{Book as Shown, Ticket, count, replied}
+use Rattle.law.specs.Book.{Book as Shown, Ticket, replied}
 use Rattle.law.specs.Restarts.{tells_places, resumed, resumed_tells, resume_refusal}
 use Rattle.book.specs.View.{view}
 use Rattle.book.proofs.Groups.{shown_len}

@@ -1,4 +1,4 @@
-use Rattle.std.proofs.Common.{◌≡◌, ℕ, ◌<◌, get_or, vec_items, vec_len, sym, ap, subst, arith}
+use Rattle.std.proofs.Common.{arith}
 use Rattle.book.proofs.Delivering.{two_of}
 use Rattle.federation.proofs.messages.arrivable.Goals as goal
 

@@ -1,4 +1,4 @@
-use Rattle.std.proofs.Common.{◌≡◌, ℕ, suc, Some, None, vec_items, Result, sym, refl, ap, ◌∙◌, subst, ap₂, add-one}
+use Rattle.std.proofs.Common.{◌≡◌, ℕ, suc, Some, None, vec_items, Result, sym, ap, ◌∙◌, add-one}
 use Rattle.refusal.specs.declared.Refusal.{Refusal}
 use Rattle.store.specs.Table.{Model}
 use Rattle.law.specs.declared.Message.{Message}

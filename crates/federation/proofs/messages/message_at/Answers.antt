@@ -1,4 +1,3 @@
-use Rattle.std.proofs.Common.{arith}
 use Rattle.book.proofs.Delivering.{message_read, two_of}
 use Rattle.federation.proofs.Allowed.{few-shown}
 use Rattle.federation.proofs.messages.message_at.Goals as goal

@@ -1,14 +1,13 @@
-use Rattle.std.proofs.Common.{◌≡◌, ℕ, ◌<◌, ◌≤◌, Bool, true, not, ltb, length, get_or, Ok, vec_items, vec_len, Result, sym, refl, ap, ◌∙◌, subst, arith}
+use Rattle.std.proofs.Common.{◌≡◌, ℕ, not, Result, sym, ap, ◌∙◌, arith}
 use Rattle.std.proofs.lemmas.Bool.{lt-ltb}
 use Rattle.refusal.specs.declared.Refusal.{Refusal}
 use Rattle.store.specs.Table.{Model}
 use Rattle.law.specs.declared.Sent.{Sent}
-use Rattle.law.specs.Book.{Cluster as Group, at, number, entry, replied}
+use Rattle.law.specs.Book.{Cluster as Group, number, entry, replied}
 use Rattle.law.specs.Messages.{send_refusal, sent}
-use Rattle.book.specs.declared.Book.{Book}
 use Rattle.book.specs.View.{view, bare}
 use Rattle.book.proofs.Soundness.{both_is}
-use Rattle.federation.proofs.Allowed.{Sending, send_allowed, within, few-shown, done, tells}
+use Rattle.federation.proofs.Allowed.{send_allowed, within, few-shown, done, tells}
 use Rattle.federation.proofs.messages.send.Goals as goal
 
 pub cluster-requires : goal.cluster-requires

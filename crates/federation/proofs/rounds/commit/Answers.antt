@@ -1,6 +1,4 @@
-use Rattle.std.proofs.Common.{◌≡◌, ℕ, Some, vec_items, Option, sym, refl, ap, ◌∙◌, ap₂}
-use Rattle.store.specs.Table.{Model}
-use Rattle.law.specs.declared.Logged.{Logged}
+use Rattle.std.proofs.Common.{◌≡◌, ℕ, Option, sym, ap, ◌∙◌}
 use Rattle.law.specs.Book.{Book as Shown, at, logged, with_cluster}
 use Rattle.law.specs.Rounds.{saved, deliver_waiting, deliver_logged}
 use Rattle.book.specs.View.{view}

@@ -1,4 +1,4 @@
-use Rattle.std.proofs.Common.{◌≡◌, Option, sym, refl, ap, ◌∙◌}
+use Rattle.std.proofs.Common.{Option, sym, ap, ◌∙◌}
 use Rattle.law.specs.declared.Logged.{Logged}
 use Rattle.law.specs.Rounds.{deliver_logged}
 use Rattle.book.specs.Logs.{no_logged}

@@ -1,5 +1,5 @@
-use Rattle.std.proofs.Common.{◌≡◌, ℕ, suc, ◌<◌, true, sym, refl, ap, ◌∙◌, subst, add-one, arith}
-use Rattle.law.specs.Book.{Cluster as Group, at, number, entry, last_number}
+use Rattle.std.proofs.Common.{◌≡◌, ℕ, suc, ◌<◌, true, refl, ap, ◌∙◌, add-one, arith}
+use Rattle.law.specs.Book.{Cluster as Group, number, entry, last_number}
 use Rattle.book.specs.View.{bare}
 use Rattle.book.proofs.Rising.{can_end_lem}
 use Rattle.federation.proofs.Allowed.{open_ends, few-shown}

@@ -1,4 +1,4 @@
-use Rattle.std.proofs.Common.{◌≡◌, ℕ, ◌<◌, Bool, true, length, Some, vec_len, sym, refl, ap, ◌∙◌, subst}
+use Rattle.std.proofs.Common.{◌≡◌, ℕ, ◌<◌, true, length, Some, vec_len, sym, ap, ◌∙◌, subst}
 use Rattle.law.specs.Book.{at, number, with_cluster, with_round}
 use Rattle.book.specs.Sound.{can_end}
 use Rattle.book.specs.View.{view, bare}

@@ -1,9 +1,7 @@
-use Rattle.std.proofs.Common.{◌≡◌, true, List, sym, ap, ◌∙◌, subst, arith}
+use Rattle.std.proofs.Common.{ap, ◌∙◌}
 use Rattle.ordered.specs.Seek.{ascending}
-use Rattle.law.specs.declared.Checkpoint.{Checkpoint}
-use Rattle.law.specs.Book.{Cluster as Group, at}
+use Rattle.law.specs.Book.{Cluster as Group}
 use Rattle.book.specs.Sound.{number_of}
-use Rattle.book.specs.View.{bare}
 use Rattle.federation.proofs.Allowed.{shown-ascends}
 use Rattle.federation.proofs.sight.kept_at.Goals as goal
 

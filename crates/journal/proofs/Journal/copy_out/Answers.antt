@@ -1,5 +1,5 @@
 -- the words read where they stand are those of the row
-use Rattle.std.proofs.Common.{◌≡◌, ℕ, ◌+◌, ◌-◌, ◌*◌, List, length, take, drop, Ok, Option, sym, ap, ◌∙◌, arith}
+use Rattle.std.proofs.Common.{◌≡◌, ℕ, List, length, Ok, Option, sym, ap, ◌∙◌, arith}
 use Rattle.refusal.specs.declared.StoreRefusal.{StoreRefusal}
 use Rattle.store.specs.Table.{told, unless, over}
 use Rattle.records.specs.Encode.{words_in}

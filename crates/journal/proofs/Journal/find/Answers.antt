@@ -1,5 +1,5 @@
 -- rows are distinct, so the table holds what the first record under the key holds
-use Rattle.std.proofs.Common.{◌≡◌, ◌+◌, ◌≤◌, get_or, Some, None, vec_items, sym, ap, ◌∙◌, subst, arith}
+use Rattle.std.proofs.Common.{◌+◌, ◌≤◌, Some, None, vec_items, sym, ap, ◌∙◌, subst, arith}
 use Rattle.records.specs.declared.Held.{Held}
 use Rattle.records.specs.Layout.{size_of, row_in}
 use Rattle.journal.specs.State.{records_of, rows_of}

@@ -1,5 +1,5 @@
 -- the first record under the key is the only one, so its row is the one that goes
-use Rattle.std.proofs.Common.{◌≡◌, List, map, is_some, Some, None, vec_items, sym, refl, ap, ◌∙◌, arith}
+use Rattle.std.proofs.Common.{List, map, is_some, Some, None, vec_items, sym, refl, ap, ◌∙◌, arith}
 use Rattle.store.proofs.Tables.{remove_none}
 use Rattle.records.specs.declared.Held.{Held}
 use Rattle.records.specs.Layout.{row_in}

@@ -1,5 +1,5 @@
 -- the records lie in order, so they can be moved together; the vector shows the moved ones
-use Rattle.std.proofs.Common.{◌≡◌, ◌≤◌, List, map, length, vec_items, vec_len, sym, ap, ◌∙◌, subst, arith}
+use Rattle.std.proofs.Common.{◌≡◌, List, map, length, vec_items, vec_len, sym, ap, ◌∙◌, subst, arith}
 use borrow.Rule.Slice.Mut.{set_vals}
 use Rattle.std.proofs.lemmas.List.{with_items_is}
 use Rattle.std.specs.Vec.{with_items}

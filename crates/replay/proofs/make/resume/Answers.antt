@@ -1,5 +1,4 @@
 use Rattle.std.proofs.Common.{sym, subst}
-use Rattle.law.specs.Book.{Book}
 use Rattle.federation.specs.Shown.{shown}
 use Rattle.replay.specs.declared.exchange.Call.TheVariants.{Resume}
 use Rattle.replay.specs.declared.exchange.Exchange.{Exchange}

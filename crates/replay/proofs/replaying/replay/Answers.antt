@@ -1,4 +1,4 @@
-use Rattle.std.proofs.Common.{◌≡◌, vec_items, sym, subst}
+use Rattle.std.proofs.Common.{vec_items, subst}
 use Rattle.law.specs.Book.{Book}
 use Rattle.federation.specs.Shown.{shown}
 use Rattle.replay.specs.Replays.{Run}

@@ -1,4 +1,4 @@
-use Rattle.std.proofs.Common.{◌≡◌, List, map, is_ok, vec_items, sym, ap, ◌∙◌, subst}
+use Rattle.std.proofs.Common.{List, map, is_ok, vec_items, sym, ap, ◌∙◌, subst}
 use mathlib.Core.List.{map-append}
 use Rattle.std.proofs.ResultArms.{chosen}
 use Rattle.std.proofs.lemmas.Result.{err_from_is_err_and}

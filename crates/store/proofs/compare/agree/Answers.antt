@@ -1,5 +1,5 @@
 -- at each exit the answer is that of the comparison row by row, and so it has its meaning
-use Rattle.std.proofs.Common.{◌≡◌, true, false, sym, ap, ◌∙◌, arith}
+use Rattle.std.proofs.Common.{◌≡◌, true, false, sym, arith}
 use Rattle.store.specs.Agree.{agreeing}
 use Rattle.store.proofs.Agreeing.{agreeing_lengths, agreeing_differ, agreeing_all, agree_decides}
 use Rattle.store.proofs.compare.agree.Goals as goal

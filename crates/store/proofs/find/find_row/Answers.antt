@@ -1,5 +1,5 @@
 -- the search stands where `seek` stops
-use Rattle.std.proofs.Common.{◌≡◌, true, false, sym, ap, ◌∙◌, arith}
+use Rattle.std.proofs.Common.{◌≡◌, true, false, sym, arith}
 use Rattle.store.specs.Seek.{ahead, same}
 use Rattle.store.proofs.Seeking.{seek_gap, seek_found, seek-end}
 use Rattle.store.proofs.find.find_row.Goals as goal

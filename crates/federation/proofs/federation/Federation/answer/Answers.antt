@@ -1,4 +1,4 @@
-use Rattle.std.proofs.Common.{◌≡◌, sym}
+use Rattle.std.proofs.Common.{sym}
 use Rattle.law.specs.Book.{at}
 use Rattle.law.specs.Rounds.{answer_refusal, answered, answered_tells}
 use Rattle.federation.specs.Shown.{shown}

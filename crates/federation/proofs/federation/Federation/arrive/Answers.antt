@@ -1,4 +1,4 @@
-use Rattle.std.proofs.Common.{◌≡◌, get_or, Ok, vec_items, sym, refl, ap, ◌∙◌}
+use Rattle.std.proofs.Common.{get_or, Ok, vec_items, sym, refl, ap, ◌∙◌}
 use Rattle.law.specs.declared.Arrived.{Arrived}
 use Rattle.book.specs.Logs.{no_logged}
 use Rattle.federation.specs.Shown.{shown}

@@ -1,13 +1,12 @@
 -- the words of the round go to the store under the next number, and then the book commits
-use Rattle.std.proofs.Common.{◌≡◌, ℕ, suc, ◌-◌, List, map, take, Some, None, Ok, Option, Result, sym, refl, ap, ◌∙◌, subst, ap₂, arith}
+use Rattle.std.proofs.Common.{◌≡◌, ℕ, suc, ◌-◌, List, take, Some, None, Ok, Option, Result, sym, ap, ◌∙◌, ap₂, arith}
 use Rattle.std.proofs.lemmas.List.{take-map}
 use Rattle.refusal.specs.declared.Refusal.{Refusal}
 use Rattle.refusal.specs.declared.Refusal.TheVariants as refuses
-use Rattle.refusal.specs.declared.StoreRefusal.{StoreRefusal}
 use Rattle.store.specs.Table.{Model, keep_refusal, keep_model}
 use Rattle.law.specs.declared.Noted.{Noted}
 use Rattle.law.specs.declared.Noted.TheVariants.{Committed}
-use Rattle.law.specs.Book.{Book as Shown, at, number, or_zero, with_cluster, unless_refused, replied}
+use Rattle.law.specs.Book.{at, number, or_zero, with_cluster, replied}
 use Rattle.law.specs.Rounds.{saved, deliver_waiting, from_store, committed}
 use Rattle.book.specs.View.{view}
 use Rattle.federation.specs.Shown.{shown}

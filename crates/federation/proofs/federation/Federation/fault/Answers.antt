@@ -1,4 +1,4 @@
-use Rattle.std.proofs.Common.{◌≡◌, refl}
+use Rattle.std.proofs.Common.{refl}
 use Rattle.law.specs.Book.{number}
 use Rattle.law.specs.Restarts.{fault_refusal, faulted, ticket}
 use Rattle.book.specs.View.{view}

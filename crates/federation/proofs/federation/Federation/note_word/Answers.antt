@@ -1,5 +1,5 @@
 -- a word that is not the last
-use Rattle.std.proofs.Common.{◌≡◌, ℕ, suc, ◌-◌, Bool, false, cond, eqb, List, take, set, Some, None, Ok, Option, Result, sym, refl, ap, ◌∙◌, subst, ap₂, arith}
+use Rattle.std.proofs.Common.{◌≡◌, ℕ, ◌-◌, false, eqb, take, set, Some, None, Ok, Option, Result, sym, ap, ◌∙◌, ap₂, arith}
 use Rattle.std.proofs.lemmas.Bool.{cond-false, ne_eqb}
 use Rattle.refusal.specs.declared.Refusal.{Refusal}
 use Rattle.law.specs.declared.Noted.{Noted}
@@ -7,7 +7,6 @@ use Rattle.law.specs.declared.Noted.TheVariants.{Missing}
 use Rattle.law.specs.declared.Round.{Round}
 use Rattle.law.specs.Book.{Book as Shown, at, with_cluster, with_round, unless_refused, replied}
 use Rattle.law.specs.Rounds.{missing as lacking, noted, notes, answer_keeps, answered, answered_tells}
-use Rattle.book.specs.View.{view}
 use Rattle.federation.specs.Shown.{shown}
 use Rattle.federation.proofs.federation.Federation.note_word.Goals as goal
 

@@ -1,8 +1,8 @@
-use Rattle.std.proofs.Common.{◌≡◌, ℕ, Some, None, sym, refl, ap, ◌∙◌, ap₂}
+use Rattle.std.proofs.Common.{ℕ, Some, None, sym, refl, ◌∙◌, ap₂}
 use Rattle.std.proofs.lemmas.Bool.{cond-true}
 use Rattle.refusal.specs.declared.Refusal.TheVariants as refuses
 use Rattle.store.specs.Table.{Model}
-use Rattle.law.specs.Opening.{opens, kept_first}
+use Rattle.law.specs.Opening.{opens}
 use Rattle.book.specs.View.{new_book}
 use Rattle.federation.proofs.federation.Federation.open.Goals as goal
 

@@ -1,4 +1,4 @@
-use Rattle.std.proofs.Common.{◌≡◌, ℕ, List, Ok, Result, ap, ◌∙◌}
+use Rattle.std.proofs.Common.{ℕ, List, Ok, Result, ap, ◌∙◌}
 use Rattle.refusal.specs.declared.Refusal.{Refusal}
 use Rattle.store.specs.Table.{lookup, read_count}
 use Rattle.federation.proofs.Wording.{sized_at, read_held, read_refused_lem}

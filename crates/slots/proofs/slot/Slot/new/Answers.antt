@@ -1,5 +1,5 @@
 -- the words stand in front of the array
-use Rattle.std.proofs.Common.{◌≡◌, ℕ, List, length, ap, ◌∙◌}
+use Rattle.std.proofs.Common.{ℕ, List, length, ap, ◌∙◌}
 use Rattle.std.proofs.lemmas.List.{take_at}
 use Rattle.store.specs.Table.{TableRow}
 use Rattle.slots.proofs.slot.Slot.new.Goals as goal
