@@ -1,10 +1,10 @@
 -- What holds of a book between two calls, so that no sum wraps, no index is out of range and no memory is wanted.
 --
---   sound         the test of a whole book; Sound what it stands for: sizes within their bounds, ids that rise, messages between clusters that exist
+--   sound          the test of a whole book; Sound what it stands for: sizes within their bounds, ids that rise, messages between clusters that exist
 --   cluster_sound  the test of the cluster with this position; ClusterSound what it stands for: room for 16 checkpoints, numbers that rise, and a round that can end
---   topped        each checkpoint has its number as its row's own entry, and none is above the cluster's number
---   addressed     each message goes between two different clusters of the federation
---   ids_below     no id is given twice: all in the log are below the next
+--   topped         each checkpoint has its number as its row's own entry, and none is above the cluster's number
+--   addressed      each message goes between two different clusters of the federation
+--   ids_below      no id is given twice: all in the log are below the next
 use Rattle.std.specs.Prelude.{◌≡◌, ℕ, suc, ◌<◌, ◌≤◌, Bool, true, false, not, List, [], ◌∷◌, is_some, vec_items, vec_len, vec_capacity, ◌==◌, nat_le, nat_lt, slice_index_or}
 use Rattle.ordered.specs.Seek.{ascending}
 use Rattle.store.specs.Table.{both}

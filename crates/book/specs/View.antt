@@ -1,10 +1,10 @@
 -- What the book of the code shows: the book of the protocol, whose store means a model.
 --
---   group  a cluster as the protocol has it
---   groups the clusters as the protocol has them
---   view   the whole book, with what the store means
+--   group     a cluster as the protocol has it
+--   groups    the clusters as the protocol has them
+--   view      the whole book, with what the store means
 --   new_book  what a new book shows
---   bare   the book with a store that holds nothing, for what does not ask the store
+--   bare      the book with a store that holds nothing, for what does not ask the store
 use Rattle.std.specs.Prelude.{ℕ, List, [], map, None, vec_items}
 use Rattle.law.specs.Opening.{first_clusters}
 use Rattle.store.specs.Table.{Model}

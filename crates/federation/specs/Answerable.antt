@@ -1,7 +1,7 @@
 -- The open round in which a node may answer, or why it may not, and what its last answer does.
 --
---   answerable   the round, or the refusal that comes before the store is asked
---   given        the words of a round in which every node has answered
+--   answerable  the round, or the refusal that comes before the store is asked
+--   given       the words of a round in which every node has answered
 --   commit_tells, commit_book  what is told and left when the store is asked to keep them
 use Rattle.std.specs.Prelude.{ℕ, suc, cond, List, map, take, is_some, Some, None, Ok, Err, Option, Result, nat_lt, slice_index_or}
 use Rattle.refusal.specs.declared.Refusal.{Refusal}

@@ -1,8 +1,8 @@
 -- The message that may arrive now, or why it may not, before the rule is asked.
 --
---   arrivable  the message in the log, or the refusal
+--   arrivable                the message in the log, or the refusal
 --   force_tells, force_book  what is told and left where the rule forces a checkpoint
---   placed     the message at a place of the log, where one is told
+--   placed                   the message at a place of the log, where one is told
 use Rattle.std.specs.Prelude.{ℕ, suc, cond, List, is_some, Some, None, Ok, Err, Option, Result, nat_lt, slice_index_or}
 use Rattle.refusal.specs.declared.Refusal.{Refusal}
 use Rattle.refusal.specs.declared.Refusal.TheVariants as refuses

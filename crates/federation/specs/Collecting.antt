@@ -1,10 +1,10 @@
 -- What resume and collect tell, as the protocol has it.
 --
---   resumed_of   the places, and the ids that go again
---   resume_told  the answer of a resume
+--   resumed_of    the places, and the ids that go again
+--   resume_told   the answer of a resume
 --   collected_of  the bounds, and how many checkpoints and messages are gone
 --   collect_told  the answer of a collect
---   spent        what an accepted collect tells of a book
+--   spent         what an accepted collect tells of a book
 use Rattle.std.specs.Prelude.{ℕ, ◌-◌, List, length, take, Ok, Err, Result}
 use Rattle.refusal.specs.declared.Refusal.{Refusal}
 use Rattle.law.specs.Book.{Book, count}

@@ -1,6 +1,6 @@
 -- What open answers: a federation that shows the book of a new one, or a refusal that hands back the store and the rule.
 --
---   Opened   each case of the answer: opened exactly where the protocol opens, and memory suffices
+--   Opened  each case of the answer: opened exactly where the protocol opens, and memory suffices
 use Rattle.std.specs.Prelude.{◌≡◌, ℕ, Some, None, Ok, Err, Result}
 use Rattle.store.specs.Table.{Model}
 use Rattle.law.specs.Opening.{open_refusal, open_book}

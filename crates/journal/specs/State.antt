@@ -1,14 +1,14 @@
 -- What a journal holds, and how keep and drop change its records.
 --
---   records_of    the bytes of the records; what lies behind them is free
+--   records_of     the bytes of the records; what lies behind them is free
 --   rows_of        the rows that are held, oldest first
 --   journal_model  the same rows as a table, 64 at most, with no sides
---   keep_records  the records after a row is kept: its K behind them, or, where that does not fit, only the Ks held
---   drop_records  the records after a row is dropped: an X behind them, or, where that does not fit, only the Ks held
---   Distinct      no two rows stand under one cluster and number
---   Lie           each held row's record stands where it is said to
---   Few           each has at most 32 words
---   JournalSound  all of that, and the memory for 64 rows is reserved
+--   keep_records   the records after a row is kept: its K behind them, or, where that does not fit, only the Ks held
+--   drop_records   the records after a row is dropped: an X behind them, or, where that does not fit, only the Ks held
+--   Distinct       no two rows stand under one cluster and number
+--   Lie            each held row's record stands where it is said to
+--   Few            each has at most 32 words
+--   JournalSound   all of that, and the memory for 64 rows is reserved
 use Rattle.std.specs.Prelude.{◌≡◌, ℕ, ◌+◌, ◌≤◌, cond, List, [], ◌∷◌, ◌++◌, map, length, take, None, vec_items, vec_capacity, nat_le}
 use Rattle.store.specs.Table.{TableRow, Model, lookup, remove}
 use Rattle.store.specs.Formed.{Formed}

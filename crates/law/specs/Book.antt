@@ -1,15 +1,15 @@
 -- The book of a federation: what is known of every cluster, the log of messages, the open restart, and the table of the store.
 --
---   Cluster        a row with one entry for each cluster, the kept checkpoints (oldest first), and the open round, if any
---   Book           everything that the unit knows between two calls
---   Ticket         the name of a federation and the count of its restarts: what a fault hands out
---   stays          the place of a cluster that is not called back: above every number
---   at             the cluster with this position
---   number         the number of a cluster's newest checkpoint: its own entry in its row
---   logged         the message with this id in the log
---   checkpoint_at  the kept checkpoint with this number
+--   Cluster         a row with one entry for each cluster, the kept checkpoints (oldest first), and the open round, if any
+--   Book            everything that the unit knows between two calls
+--   Ticket          the name of a federation and the count of its restarts: what a fault hands out
+--   stays           the place of a cluster that is not called back: above every number
+--   at              the cluster with this position
+--   number          the number of a cluster's newest checkpoint: its own entry in its row
+--   logged          the message with this id in the log
+--   checkpoint_at   the kept checkpoint with this number
 --   unless_refused  a refused call leaves everything as it was
---   replied        the answer of a call: its refusal, or what it tells
+--   replied         the answer of a call: its refusal, or what it tells
 use Rattle.std.specs.Prelude.{ℕ, cond, List, [], ◌∷◌, length, Some, None, Ok, Err, Option, Result, ◌==◌, nat_lt, slice_index, slice_index_or, slice_set}
 use Rattle.refusal.specs.declared.Refusal.{Refusal}
 use Rattle.store.specs.Table.{Model}

@@ -1,10 +1,10 @@
 -- The calls on an open federation as data: what each tells when it is accepted, and a list of calls made one after another.
 --
---   Call       a call with its arguments; lose and rebuild carry what the store says of the side
---   Value      what an accepted call tells
---   Answered   a call with its answer: a refusal, or what it tells
---   reply      the answer of a call on a book; step the book after it
---   run        a list of calls, each with its answer; after the book when all are made
+--   Call      a call with its arguments; lose and rebuild carry what the store says of the side
+--   Value     what an accepted call tells
+--   Answered  a call with its answer: a refusal, or what it tells
+--   reply     the answer of a call on a book; step the book after it
+--   run       a list of calls, each with its answer; after the book when all are made
 use Rattle.std.specs.Prelude.{ℕ, List, [], ◌∷◌, Option, Result}
 use Rattle.refusal.specs.declared.Refusal.{Refusal}
 use Rattle.refusal.specs.declared.StoreRefusal.{StoreRefusal}

@@ -1,8 +1,8 @@
 -- How an effect travels: from an event to later ones of its cluster, and from a send to that message's delivery.
 --
---   Chain     from an event of one cluster to an event of another, or the same
---   Lost      an event of a failed cluster after its newest checkpoint
---   Reached   a chain leads to this event from lost work
+--   Chain    from an event of one cluster to an event of another, or the same
+--   Lost     an event of a failed cluster after its newest checkpoint
+--   Reached  a chain leads to this event from lost work
 use Rattle.std.specs.Prelude.{◌≡◌, ℕ, Bool, true}
 use Rattle.law.specs.declared.Message.{Message}
 use Rattle.law.specs.Events.{Event, Lists, sent, got, ◌∈◌, Later, After, number}

@@ -1,13 +1,13 @@
 -- What a cluster did, event by event, newest first.
 --
---   Event      a checkpoint with the words given for it, a send, or a delivery; each with its time, which no other event has
---   Lists      the events of each cluster
---   _∈_        an event of a list; Later: the second of two events of a list comes after the first
---   number     how many checkpoints a list has: the number of the newest
---   heard      the highest number on a delivery from one cluster, 0 if there is none
---   After      an event of a list comes after the checkpoint with this number
---   back       what stands when a cluster goes back to the checkpoint with this number: all, where it has fewer
---   given      the words given for the checkpoint with this number
+--   Event   a checkpoint with the words given for it, a send, or a delivery; each with its time, which no other event has
+--   Lists   the events of each cluster
+--   ◌∈◌     an event of a list; Later: the second of two events of a list comes after the first
+--   number  how many checkpoints a list has: the number of the newest
+--   heard   the highest number on a delivery from one cluster, 0 if there is none
+--   After   an event of a list comes after the checkpoint with this number
+--   back    what stands when a cluster goes back to the checkpoint with this number: all, where it has fewer
+--   given   the words given for the checkpoint with this number
 use Rattle.std.specs.Prelude.{◌≡◌, ℕ, ◌+◌, ◌≤◌, max, cond, ◌⊎◌, List, [], ◌∷◌, ◌==◌, nat_le}
 use Rattle.law.specs.declared.Message.{Message}
 

@@ -1,10 +1,10 @@
 -- The history of a federation, told from its calls and their answers alone.
 --
---   Told       what stands after some calls: the events of each cluster, and what later calls refer to
---   tell       the history after one more call: a refused call alters nothing
---   history    the history after a list of calls with their answers
---   new_told   the history of a new federation: checkpoint 1 with zeros at every cluster
---   put        a function with another value at one place
+--   Told      what stands after some calls: the events of each cluster, and what later calls refer to
+--   tell      the history after one more call: a refused call alters nothing
+--   history   the history after a list of calls with their answers
+--   new_told  the history of a new federation: checkpoint 1 with zeros at every cluster
+--   put       a function with another value at one place
 use Rattle.std.specs.Prelude.{ℕ, suc, Bool, false, cond, List, [], ◌∷◌, map, replicate, Some, None, Ok, Err, Option, ◌==◌, slice_index, slice_index_or}
 use Rattle.std.specs.List.{range_with_len}
 use Rattle.law.specs.declared.Message.{Message}

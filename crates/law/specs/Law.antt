@@ -1,14 +1,14 @@
 -- The law of lost work: what every list of calls on a new federation leaves, whatever the store and the rule.
 --
---   Law             what holds after any calls: of the messages, the table and the alerts; and of each accepted resume
---   Collecting      what a collect drops and leaves
---   Restarted       what holds at an accepted resume, of the history before it and after it
---   Among           one of the elements of a list; times_in how often the log has an id
---   standing        the words of a standing checkpoint from the oldest kept on
---   Unique          no pair of cluster and number stands twice in a table
---   Restarting      what holds while a restart is open
---   carry_then_finish the calls that carry some alerts, any that wait or not, and then finish
---   LawOfLostWork the law for all federations and all lists of calls
+--   Law                what holds after any calls: of the messages, the table and the alerts; and of each accepted resume
+--   Collecting         what a collect drops and leaves
+--   Restarted          what holds at an accepted resume, of the history before it and after it
+--   Among              one of the elements of a list; times_in how often the log has an id
+--   standing           the words of a standing checkpoint from the oldest kept on
+--   Unique             no pair of cluster and number stands twice in a table
+--   Restarting         what holds while a restart is open
+--   carry_then_finish  the calls that carry some alerts, any that wait or not, and then finish
+--   LawOfLostWork      the law for all federations and all lists of calls
 use Rattle.std.specs.Prelude.{◌≡◌, ℕ, ◌+◌, ◌-◌, ◌*◌, ◌<◌, ◌≤◌, true, false, cond, ◌⊎◌, ◌↔◌, List, [], ◌∷◌, is_some, Some, None, Ok, Option, ◌==◌, nat_le, nat_lt, slice_index}
 use Rattle.store.specs.Table.{Model, TableRow, lookup, both}
 use Rattle.law.specs.declared.Message.{Message}

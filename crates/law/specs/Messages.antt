@@ -1,11 +1,11 @@
 -- Send and arrive: a message enters the log with its sender's number, and is delivered now or after the round that it forces.
 --
---   Rule           a forcing rule: from the receiver's entry for the sender, the message's number and the count of kept checkpoints
---   Meaning        what every rule has to do: force whenever the message's number is above the entry
---   send_refusal   why send refuses, if it does; send_tells, send_book what it tells and leaves
+--   Rule            a forcing rule: from the receiver's entry for the sender, the message's number and the count of kept checkpoints
+--   Meaning         what every rule has to do: force whenever the message's number is above the entry
+--   send_refusal    why send refuses, if it does; send_tells, send_book what it tells and leaves
 --   arrive_refusal  why arrive refuses, if it does; arrive_tells, arrive_book what it tells and leaves
---   round_refusal  why a round cannot open at a cluster, if it cannot
---   deliver        the book after a message was delivered to its receiver
+--   round_refusal   why a round cannot open at a cluster, if it cannot
+--   deliver         the book after a message was delivered to its receiver
 use Rattle.store.specs.Table.{both}
 use Rattle.std.specs.Prelude.{◌≡◌, ℕ, suc, ◌<◌, Bool, true, cond, [], ◌∷◌, ◌++◌, map, length, replicate, is_some, Some, None, Option, Result, ◌==◌, nat_le, nat_lt}
 use Rattle.refusal.specs.declared.Refusal.{Refusal}

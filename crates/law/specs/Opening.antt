@@ -1,8 +1,8 @@
 -- Open: a federation with its sizes and an empty store, every cluster at checkpoint 1.
 --
 --   open_refusal  why open refuses, if it does; open_book the book that it begins
---   first_row    the row of a new cluster: 1 for itself, 0 for every other
---   kept_first   the store after zero words were kept for checkpoint 1 of the first so many clusters
+--   first_row     the row of a new cluster: 1 for itself, 0 for every other
+--   kept_first    the store after zero words were kept for checkpoint 1 of the first so many clusters
 use Rattle.std.specs.Prelude.{ℕ, zero, suc, Bool, true, false, cond, List, [], ◌∷◌, ◌++◌, replicate, Some, None, Option, nat_le, slice_set}
 use Rattle.refusal.specs.declared.Refusal.{Refusal}
 use Rattle.refusal.specs.declared.Refusal.TheVariants as refuses

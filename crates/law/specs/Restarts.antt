@@ -3,7 +3,7 @@
 --   fault_refusal  why fault refuses, if it does; fault_tells, fault_book what it tells and leaves
 --   alert_refusal, finish_refusal, resume_refusal and their books and answers likewise
 --   begun          the restart in which one cluster has failed: it goes back to its newest checkpoint and alerts every other
---   entry_at        the entry of one cluster for another at its present place
+--   entry_at       the entry of one cluster for another at its present place
 --   called_to      the checkpoint to which an alert calls a cluster back, if it does
 --   carry          the restart after one alert was carried
 --   drain          the restart after every waiting alert was carried, the lowest pair of clusters first

@@ -1,9 +1,9 @@
 -- Request and answer: a round opens, every node answers with a word, and the last answer commits the checkpoint.
 --
 --   request_refusal  why request refuses, if it does; request_tells, request_book what it tells and leaves
---   answer_refusal  why answer refuses, if it does; answer_tells, answer_book what it tells and leaves
---   missing         how many nodes have not answered
---   committed       the book after the last answer: the words kept, then the checkpoint with the row as it was, then the delivery
+--   answer_refusal   why answer refuses, if it does; answer_tells, answer_book what it tells and leaves
+--   missing          how many nodes have not answered
+--   committed        the book after the last answer: the words kept, then the checkpoint with the row as it was, then the delivery
 use Rattle.std.specs.Prelude.{ℕ, suc, cond, List, [], ◌∷◌, ◌++◌, map, take, set, is_some, Some, None, Option, Result, ◌==◌, nat_lt, slice_index_or, slice_set}
 use Rattle.refusal.specs.declared.Refusal.{Refusal}
 use Rattle.refusal.specs.declared.Refusal.TheVariants as refuses

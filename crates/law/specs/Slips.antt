@@ -1,7 +1,7 @@
 -- Ten slips that the law turns away, each by a short run with the answers, the log or the table that it would give.
 --
---   told      the history of a list of calls with their answers
---   Slips     each slip, and that the law does not hold of what it gives
+--   told   the history of a list of calls with their answers
+--   Slips  each slip, and that the law does not hold of what it gives
 use Rattle.std.specs.Prelude.{ℕ, false, List, [], ◌∷◌, ◌++◌, Some, None, Ok}
 use Rattle.store.specs.Table.{TableRow, with_table}
 use Rattle.law.specs.declared.Message.{Message}

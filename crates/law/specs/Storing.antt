@@ -1,7 +1,7 @@
 -- Read, lose and rebuild: the words of a kept checkpoint, and the calls that a store with sides adds.
 --
 --   read_refusal  why read refuses, if it does; read_tells the words that it gives; the book stays as it is
---   side_tells   what lose and rebuild answer: what the store says of the side; its table, and so the book, stays as it is
+--   side_tells    what lose and rebuild answer: what the store says of the side; its table, and so the book, stays as it is
 use Rattle.std.specs.Prelude.{ℕ, cond, List, [], is_some, Some, None, Option, Result, nat_lt}
 use Rattle.refusal.specs.declared.Refusal.{Refusal}
 use Rattle.refusal.specs.declared.Refusal.TheVariants as refuses

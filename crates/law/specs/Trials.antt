@@ -1,9 +1,9 @@
 -- Trial and collect: where a fault would lead, and what no later fault can need.
 --
---   trial_refusal   why trial refuses, if it does; trial_tells what it tells; the book stays as it is
+--   trial_refusal    why trial refuses, if it does; trial_tells what it tells; the book stays as it is
 --   collect_refusal  why collect refuses, if it does; collect_tells, collect_book what it tells and leaves
---   lowest          the smallest place of each cluster over the faults of the first so many clusters
---   Collected       the bounds, and how many checkpoints and messages are gone
+--   lowest           the smallest place of each cluster over the faults of the first so many clusters
+--   Collected        the bounds, and how many checkpoints and messages are gone
 use Rattle.std.specs.Prelude.{ℕ, zero, suc, ◌+◌, ◌-◌, min, Bool, true, cond, ltb, leb, List, [], ◌∷◌, length, take, replicate, is_some, Some, None, filter, Option, Result, nat_le, nat_lt, slice_index}
 use Rattle.refusal.specs.declared.Refusal.{Refusal}
 use Rattle.refusal.specs.declared.Refusal.TheVariants as refuses

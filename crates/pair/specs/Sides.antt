@@ -1,9 +1,9 @@
 -- What two stores mean as one.
 --
---   standing   the table of a side that is not out
+--   standing    the table of a side that is not out
 --   pair_model  that table, the smaller capacity, and the first side that has it
---   Together   both sides hold the same rows, or the side that is out holds none
---   PairSound  both sides are sound and together, and the rows fit both
+--   Together    both sides hold the same rows, or the side that is out holds none
+--   PairSound   both sides are sound and together, and the rows fit both
 --   out_number  the side that is out, counted from 1, and 0 where none is
 --   side_of     the side with a number, if there is one
 use Rattle.std.specs.Prelude.{◌≡◌, ℕ, ◌≤◌, min, cond, List, [], length, Some, None, Option, ◌==◌, nat_le}

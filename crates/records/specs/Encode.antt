@@ -3,7 +3,7 @@
 --   keep_bytes  a row that is kept: K, cluster (1), number (4), word count (1), words (8 each)
 --   drop_bytes  a row that is dropped: X, cluster (1), number (4)
 --   rows_bytes  the records of kept rows, one behind another
---   word       the number in 8 bytes
+--   word        the number in 8 bytes
 --   words_in    so many numbers, from bytes that stand one behind another
 use Rattle.std.specs.Prelude.{ℕ, zero, suc, ◌+◌, ◌*◌, ◌/◌, ◌%◌, List, [], ◌∷◌, ◌++◌, length, drop, slice_index}
 use Rattle.store.specs.Table.{TableRow}

@@ -1,8 +1,8 @@
 -- Where the records of kept rows lie among the bytes of a journal.
 --
---   size_of   the bytes of a kept row's record
+--   size_of  the bytes of a kept row's record
 --   part     a record's bytes; parts those of several, one behind another
---   row_in    the row that a record holds
+--   row_in   the row that a record holds
 --   relaid   the same records, one behind another from a place on
 --   total    the bytes of several records
 --   Laid     records stand in their order, none over another, between two places

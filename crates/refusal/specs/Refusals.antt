@@ -1,9 +1,9 @@
 -- Every refusal, case by case: the number that a rig's log stores, the layer, the side of a store, and the words.
 --
 --   number_of     the number of a refusal, 1 to 23
---   layer_of     where it comes from: the list, the book of the federation, or the store
+--   layer_of      where it comes from: the list, the book of the federation, or the store
 --   layer_letter  the letter that an answer shows for a layer: L, B or S
---   letter_of    the letter of a store's refusal
+--   letter_of     the letter of a store's refusal
 --   side_of       the side of the store that is full, counted from 1, and 0 for every other refusal
 --   words_of      what a person reads
 use Rattle.std.specs.Prelude.{ℕ, List, codes}

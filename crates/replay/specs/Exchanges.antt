@@ -1,11 +1,11 @@
 -- Exchanges as the history of the law has them: a call of the protocol with its answer.
 --
---   asked      the call of an exchange, as it was passed
---   told       the call and its answer, as the history tells them
+--   asked       the call of an exchange, as it was passed
+--   told        the call and its answer, as the history tells them
 --   call_of     the call of the protocol; calls_of those of a list
 --   store_part  what the store said, where a refusal is the store's
---   Stepped    one call made, its answer and the book after it as the protocol has them
---   Honest     the answer is the protocol's at the book before the call
+--   Stepped     one call made, its answer and the book after it as the protocol has them
+--   Honest      the answer is the protocol's at the book before the call
 use Rattle.std.specs.Prelude.{◌≡◌, ℕ, List, map, Some, None, Ok, Err, Option, Result}
 use Rattle.refusal.specs.declared.Refusal.{Refusal}
 use Rattle.refusal.specs.declared.Refusal.TheVariants.{UnknownLetter, CutShort, OpenMisplaced, BadOpen, NoCluster, SameCluster, NoRank, ListTooLong, RestartOpen, NoRestart, NotInLog, Delivered, RoundOpen, NoRound, Answered as HasAnswered, LogFull, KeptFull, NumbersSpent, Store as FromStore, NotKept, NoAlert, WrongTicket, NoRoom}

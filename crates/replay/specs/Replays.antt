@@ -1,8 +1,8 @@
 -- What a list of calls leaves, and the law of lost work about it.
 --
---   Run       these exchanges are of these calls, each answered as the protocol answers, and leave this book
---   Replaying of a list of calls on a new federation: how it opened, its run, and the law of lost work
---   Outcome   each case of the answer
+--   Run        these exchanges are of these calls, each answered as the protocol answers, and leave this book
+--   Replaying  of a list of calls on a new federation: how it opened, its run, and the law of lost work
+--   Outcome    each case of the answer
 use Rattle.std.specs.Prelude.{◌≡◌, ℕ, List, map, None, Ok, Err, vec_items, Result}
 use Rattle.store.specs.Table.{Model}
 use Rattle.law.specs.Book.{Book}

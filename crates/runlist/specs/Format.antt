@@ -1,9 +1,9 @@
 -- The commands of a run list, one by one: letters, widths, and what the operand bytes say.
 --
---   Item        a command as a list has it: its letter, and its operand bytes
---   item        the item that a value of the code's `Command` stands for
+--   Item         a command as a list has it: its letter, and its operand bytes
+--   item         the item that a value of the code's `Command` stands for
 --   width_of     how many operand bytes follow a letter; none where no command has the letter
---   number      bytes as an unsigned number, high byte first
+--   number       bytes as an unsigned number, high byte first
 --   operands_of  the typed operands of a command whose operands have the right width
 use Rattle.std.specs.Prelude.{ℕ, ◌+◌, ◌*◌, cond, List, [], ◌∷◌, length, Some, None, Option, ◌==◌, slice_index}
 use Rattle.std.specs.List.{between}

@@ -1,8 +1,8 @@
 -- Writing and reading undo each other.
 --
 --   places_from   items with the offsets at which they lie, one behind another
---   whole_of       a reading that gives just these items, and that nothing ends
---   items_of       the items of a reading, without their offsets
+--   whole_of      a reading that gives just these items, and that nothing ends
+--   items_of      the items of a reading, without their offsets
 --   ReadsBack     a list that was written from items reads back as exactly those items, each at its offset
 --   WrittenAgain  an accepted list is, byte for byte, what the writer makes of its items
 --   RoundTrip     both

@@ -1,16 +1,16 @@
 -- A run list: how it is read, when it is accepted, and how commands are written.
 --
---   Place        an item with the offset of its letter in the list
---   misplaced    the open command stands anywhere but first, or another command stands first
---   Next, next   what stands at the front of the rest of a list: its end, a refusal, or an item
---   Reading      what a reader gives: the items before the end or the refusal, and the refusal, if one ends it
---   read_on       the rest of a list read, from an offset on
---   read_list    a whole list read
---   bytes        the bytes of an item: its letter, and its operands behind it
---   whole        an item's letter is known, and its operands have the width that it asks for
+--   Place           an item with the offset of its letter in the list
+--   misplaced       the open command stands anywhere but first, or another command stands first
+--   Next, next      what stands at the front of the rest of a list: its end, a refusal, or an item
+--   Reading         what a reader gives: the items before the end or the refusal, and the refusal, if one ends it
+--   read_on         the rest of a list read, from an offset on
+--   read_list       a whole list read
+--   bytes           the bytes of an item: its letter, and its operands behind it
+--   whole           an item's letter is known, and its operands have the width that it asks for
 --   append_refusal  why an item cannot be appended, if it cannot
---   Writing      what was written of some items, and the refusal, if one ended it
---   write_list   items appended, one after another, to an empty list
+--   Writing         what was written of some items, and the refusal, if one ended it
+--   write_list      items appended, one after another, to an empty list
 use Rattle.std.specs.Prelude.{ℕ, zero, suc, ◌+◌, Bool, true, false, cond, List, [], ◌∷◌, ◌++◌, length, take, drop, Some, None, Option, ◌==◌, nat_le, nat_lt}
 use Rattle.refusal.specs.declared.Refusal.{Refusal}
 use Rattle.refusal.specs.declared.Refusal.TheVariants.{UnknownLetter, CutShort, OpenMisplaced, ListTooLong, NoRoom}

@@ -1,13 +1,13 @@
 -- What the reader's own values mean, in the words of the definition.
 --
 --   cut_out, cut_to  the operand bytes that the code cut out of a list, and those that it should cut
---   found          what the code found at the front of a list
---   to_come        what a reader has still to give
---   given          what one call of a reader gave: nothing more, a refusal, or a command with its offset
---   Step           a call gives the first of what was to come, and leaves the rest
---   accepted       whether a list is accepted: how many commands it has, or the refusal that ends it
---   Commands       these are the commands of an accepted list, and written again they are the list
---   NotRead        why a list has no commands to give
+--   found            what the code found at the front of a list
+--   to_come          what a reader has still to give
+--   given            what one call of a reader gave: nothing more, a refusal, or a command with its offset
+--   Step             a call gives the first of what was to come, and leaves the rest
+--   accepted         whether a list is accepted: how many commands it has, or the refusal that ends it
+--   Commands         these are the commands of an accepted list, and written again they are the list
+--   NotRead          why a list has no commands to give
 use Rattle.std.specs.Prelude.{◌≡◌, ℕ, Bool, cond, List, [], ◌∷◌, length, take, drop, Some, None, Ok, Err, Option, Result, nat_le}
 use Rattle.std.specs.Borrow.{Bor}
 use Rattle.refusal.specs.declared.Refusal.{Refusal}

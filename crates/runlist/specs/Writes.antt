@@ -1,7 +1,7 @@
 -- The writer's answers, in the words of the definition.
 --
---   answered    the answer of an append
---   written     the answer of a whole list written: how many bytes, or the refusal and how many bytes stand before it
+--   answered  the answer of an append
+--   written   the answer of a whole list written: how many bytes, or the refusal and how many bytes stand before it
 use Rattle.std.specs.Prelude.{ℕ, length, Some, None, Ok, Err, Option, Result}
 use Rattle.refusal.specs.declared.Refusal.{Refusal}
 use Rattle.runlist.specs.declared.reader.RefusedAt.{RefusedAt}

@@ -1,6 +1,6 @@
+// Tests of run lists, with expected values written by hand from docs/FORMAT.md.
 #![tactic(auto)]
 
-// Tests of run lists, with expected values written by hand from docs/FORMAT.md.
 #[cfg(test)]
 mod reading;
 #[cfg(test)]

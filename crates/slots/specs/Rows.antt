@@ -2,7 +2,7 @@
 --
 --   row_of       the row that a slot holds
 --   slots_model  the rows of all slots, in their order, 64 at most, with no sides
---   SlotsSound  the memory for 64 is reserved, and the table is formed
+--   SlotsSound   the memory for 64 is reserved, and the table is formed
 use Rattle.std.specs.Prelude.{◌≤◌, map, take, vec_items, vec_capacity}
 use Rattle.store.specs.Table.{TableRow, Model}
 use Rattle.store.specs.Formed.{Formed}

@@ -4,7 +4,7 @@
 --   same    they are the key
 --   seek    the place of the record under them as Ok, else, as Err, that of the first record that they come before
 --   onward  the same answer, seen from one record before
---   key_at   the key of the record at a position, if there is one
+--   key_at  the key of the record at a position, if there is one
 use Rattle.std.specs.Prelude.{ℕ, zero, suc, Bool, cond, List, [], ◌∷◌, Some, None, Ok, Err, Option, Result, ◌==◌, nat_lt}
 use Rattle.store.specs.declared.RowKey.{RowKey}
 use Rattle.store.specs.Table.{both, either}

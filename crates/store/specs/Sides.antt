@@ -1,6 +1,6 @@
 -- Sides that can be lost and rebuilt. Sides are counted from 1; `out` is the side that is out, 0 where none is.
 --
---   lose_refusal    why lose refuses, if it does; lose_out which side is out after it
+--   lose_refusal     why lose refuses, if it does; lose_out which side is out after it
 --   rebuild_refusal  why rebuild refuses, if it does; rebuild_out which side is out after it
 use Rattle.std.specs.Prelude.{ℕ, Bool, cond, Some, None, Option, ◌==◌, nat_le}
 use Rattle.refusal.specs.declared.StoreRefusal.{StoreRefusal}

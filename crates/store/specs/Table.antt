@@ -7,7 +7,7 @@
 --   drop_refusal  why drop refuses, if it does; drop_model what the store means after it
 --   read_refusal  why read refuses, if it does; read_count, read_buffer what it tells and leaves in the buffer
 --   position_at   the cluster and number of the row at a position
---   key_of         the cluster and number of a row
+--   key_of        the cluster and number of a row
 --   told          the answer of a call that tells something unless it was refused
 use Rattle.std.specs.Prelude.{ℕ, zero, suc, Bool, true, false, cond, List, [], ◌∷◌, ◌++◌, length, drop, is_some, Some, None, Ok, Err, Option, Result, ◌==◌, nat_le, nat_lt}
 use Rattle.std.specs.Option.{unwrap_or, ok_or}

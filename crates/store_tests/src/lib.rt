@@ -1,6 +1,6 @@
+// Tables of calls with the letters that they answer, tried on stores of every kind.
 #![tactic(auto)]
 
-// Tables of calls with the letters that they answer, tried on stores of every kind.
 #[cfg(test)]
 mod cases;
 

@@ -1,11 +1,11 @@
 -- The text of a command and of a verdict, byte by byte.
 --
---   hex_of        bytes as hexadecimal digits, two for each
+--   hex_of         bytes as hexadecimal digits, two for each
 --   mark_of        the letter of a rule or a store; a number where the byte is no capital letter
 --   operands_text  the name of a command and its operands
 --   line_of        the line of a command: its offset, then its name and operands
---   verdict_of    the line that says whether a list is accepted
---   again_of      the line that says that a list, written again, is the same
+--   verdict_of     the line that says whether a list is accepted
+--   again_of       the line that says that a list, written again, is the same
 use Rattle.std.specs.Prelude.{ℕ, ◌+◌, ◌-◌, ◌/◌, ◌%◌, cond, List, [], ◌∷◌, ◌++◌, Some, None, Ok, Err, codes, decimal, Option, Result, nat_le, nat_lt}
 use Rattle.refusal.specs.Refusals.{number_of, words_of}
 use Rattle.runlist.specs.declared.reader.RefusedAt.{RefusedAt}
