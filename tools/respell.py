@@ -4,8 +4,8 @@
 usage: python3 tools/respell.py            at the top of the repository
 
 own_names.txt beside this script has a line for each name: the old one and the new one. Names are turned whole, in specs/, proofs/, src/
-and the must-fail edits of every crate, and between backticks in README.md and docs/. Names that Rattle makes, names of src/ and strings
-are not in that list.
+and the must-fail edits of every crate, and between backticks in README.md and docs/, but for the pages about the move itself. Names that Rattle
+makes, names of src/ and strings are not in that list.
 """
 
 import glob
@@ -45,7 +45,8 @@ def main():
         if after != text:
             with open(path, "w", encoding="utf-8") as f:
                 f.write(after)
-    for path in ["README.md", *sorted(glob.glob("docs/*.md"))]:
+    pages = [p for p in sorted(glob.glob("docs/*.md")) if not os.path.basename(p).startswith("PORT")]
+    for path in ["README.md", *pages]:
         with open(path, encoding="utf-8") as f:
             text = f.read()
         after = re.sub(r"`[^`\n]*`", lambda m: turned(m.group(0), new), text)
