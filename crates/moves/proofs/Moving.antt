@@ -6,8 +6,9 @@ use Rattle.std.proofs.lemmas.List.{take_at, length-take-le}
 use Rattle.std.specs.Option.{ok_or}
 use Rattle.refusal.specs.declared.StoreRefusal.{StoreRefusal}
 use Rattle.refusal.specs.declared.StoreRefusal.TheVariants.{WordCount}
+use Rattle.refusal.specs.Answers.{unless_refused, replied}
 use Rattle.store.specs.declared.RowKey.{RowKey}
-use Rattle.store.specs.Table.{TableRow, Model, row_at, key_of, lookup, insert, words_fit, told, unless, over, read_refused, read_refusal, read_count, read_buffer, position_at, keep_model, with_table}
+use Rattle.store.specs.Table.{TableRow, Model, row_at, key_of, lookup, insert, words_fit, over, read_refused, read_refusal, read_count, read_buffer, position_at, keep_model, with_table}
 use Rattle.store.specs.Formed.{Formed}
 use Rattle.store.proofs.Orders.{both_true}
 use Rattle.store.proofs.Tables.{new_row, some_none, row_at_lem, lookup_at, lookup_front, insert_front, sized_at, Allowed, keep_free, keep_allowed}
@@ -25,16 +26,16 @@ pub key_there : (rows : List TableRow) (i : ℕ) (key : RowKey) → i < length r
 key_there rows i key within e = let at = row_at_lem rows i any within in cc
 
 -- words that were read stand in front of the buffer
-read_fits : (fits : Bool) (ws buffer buffer' : List ℕ) (count : ℕ) → Ok count ≡ told (cond fits None (Some WordCount)) (length ws) → buffer' ≡ unless (cond fits None (Some WordCount)) buffer (over ws buffer) → take count buffer' ≡ ws
+read_fits : (fits : Bool) (ws buffer buffer' : List ℕ) (count : ℕ) → Ok count ≡ replied (cond fits None (Some WordCount)) (length ws) → buffer' ≡ unless_refused (cond fits None (Some WordCount)) buffer (over ws buffer) → take count buffer' ≡ ws
 read_fits true ws buffer buffer' count e b = let is : length ws ≡ count = cc in ap (take count) b ∙ take_at ws _ count is
 read_fits false ws buffer buffer' count e b = let z : ◌≡◌ {A = ℕ} 0 1 = cc in absurd (omega arith)
 
-read_held : (held : Option (List ℕ)) (ws buffer buffer' : List ℕ) (count : ℕ) → held ≡ Some ws → Ok count ≡ told (read_refused held (length buffer)) (length (unwrap_or held [])) → buffer' ≡ unless (read_refused held (length buffer)) buffer (over (unwrap_or held []) buffer) → take count buffer' ≡ ws
+read_held : (held : Option (List ℕ)) (ws buffer buffer' : List ℕ) (count : ℕ) → held ≡ Some ws → Ok count ≡ replied (read_refused held (length buffer)) (length (unwrap_or held [])) → buffer' ≡ unless_refused (read_refused held (length buffer)) buffer (over (unwrap_or held []) buffer) → take count buffer' ≡ ws
 read_held None ws buffer buffer' count h e b = absurd (some_none (sym h))
 read_held (Some w) ws buffer buffer' count h e b =
     let is : w ≡ ws = cc in read_fits (leb (length w) (length buffer)) w buffer buffer' count e b ∙ is
 
-read_refused_lem : (held : Option (List ℕ)) (ws : List ℕ) (room : ℕ) (count : ℕ) (why : StoreRefusal) → held ≡ Some ws → length ws ≤ room → Err why ≡ told (read_refused held room) count → ⊥
+read_refused_lem : (held : Option (List ℕ)) (ws : List ℕ) (room : ℕ) (count : ℕ) (why : StoreRefusal) → held ≡ Some ws → length ws ≤ room → Err why ≡ replied (read_refused held room) count → ⊥
 read_refused_lem None ws room count why h le e = some_none (sym h)
 read_refused_lem (Some w) ws room count why h le e =
     let same : length w ≡ length ws = ap length (some_same h) in
@@ -54,14 +55,14 @@ module _ (from : Model) (formed : Formed from) (at : ℕ) (within : at < length 
       (lookup_at from.table at any formed.rising within)
 
   -- a row that stands at a position is read into a buffer for 32 words
-  pub read_there : (room count : ℕ) (why : StoreRefusal) → 32 ≤ room → Err why ≡ told (read_refusal from key.cluster key.number room) count → ⊥
+  pub read_there : (room count : ℕ) (why : StoreRefusal) → 32 ≤ room → Err why ≡ replied (read_refusal from key.cluster key.number room) count → ⊥
   read_there room count why le e =
       let words = (get_or from.table at any).words in
       let few = leb-true (length words) 32 (both_true (leb 1 (length words)) (leb (length words) 32) (sized_at from.table at any formed.sized within)).1 in
       read_refused_lem (lookup from.table key.cluster key.number) words room count why held (omega arith) e
 
   -- and kept behind those before it
-  pub copied : (to : Model) (count : ℕ) (buffer buffer' ws : List ℕ) → at < to.capacity → to.table ≡ take at from.table → Ok count ≡ told (read_refusal from key.cluster key.number (length buffer)) (read_count from key.cluster key.number) → buffer' ≡ read_buffer from key.cluster key.number buffer → ws ≡ take count buffer' → keep_model to key.cluster key.number ws ≡ with_table to (take (at + 1) from.table)
+  pub copied : (to : Model) (count : ℕ) (buffer buffer' ws : List ℕ) → at < to.capacity → to.table ≡ take at from.table → Ok count ≡ replied (read_refusal from key.cluster key.number (length buffer)) (read_count from key.cluster key.number) → buffer' ≡ read_buffer from key.cluster key.number buffer → ws ≡ take count buffer' → keep_model to key.cluster key.number ws ≡ with_table to (take (at + 1) from.table)
   copied to count buffer buffer' ws room front e b w =
       let rows = from.table in
       let words : ws ≡ (get_or rows at any).words =

@@ -1,16 +1,29 @@
 -- What two stores mean as one.
 --
+--   side_of     the side with a number, if there is one
+--   number_of   the number of a side
+--   out_number  the side that is out, counted from 1, and 0 where none is
 --   standing    the table of a side that is not out
 --   pair_model  that table, the smaller capacity, and the first side that has it
 --   Together    both sides hold the same rows, or the side that is out holds none
---   PairSound   both sides are sound and together, and the rows fit both
---   out_number  the side that is out, counted from 1, and 0 where none is
---   side_of     the side with a number, if there is one
-use Rattle.std.specs.Prelude.{◌≡◌, ℕ, ◌≤◌, min, cond, List, [], length, Some, None, Option, ◌==◌, nat_le}
+use Rattle.std.specs.Prelude.{◌≡◌, ℕ, min, cond, List, [], Some, None, Ok, Err, Option, Result, ◌==◌, nat_le}
+use Rattle.refusal.specs.declared.StoreRefusal.{StoreRefusal}
+use Rattle.refusal.specs.declared.StoreRefusal.TheVariants.{NoSide}
 use Rattle.store.specs.Table.{TableRow, Model}
 use Rattle.moves.specs.Limit.{limited}
-use Rattle.pair.specs.declared.Side.{Side}
-use Rattle.pair.specs.declared.Side.TheVariants.{First, Second}
+use Rattle.pair.specs.declared.side.Side.{Side}
+use Rattle.pair.specs.declared.side.Side.TheVariants.{First, Second}
+
+abbrev pub side_of : ℕ → Result Side StoreRefusal
+side_of number = cond (number == 1) (Ok First) (cond (number == 2) (Ok Second) (Err NoSide))
+
+abbrev pub number_of : Side → ℕ
+number_of First = 1
+number_of Second = 2
+
+abbrev pub out_number : Option Side → ℕ
+out_number None = 0
+out_number (Some side) = number_of side
 
 abbrev pub standing : {A : Type 0} → Option Side → A → A → A
 standing None a b = a
@@ -18,28 +31,22 @@ standing (Some First) a b = b
 standing (Some Second) a b = a
 
 -- the first side that has the smaller capacity
-abbrev pub smaller : ℕ → ℕ → ℕ
-smaller first second = cond (nat_le first second) 1 2
+abbrev pub smaller : ℕ → ℕ → Side
+smaller first second = cond (nat_le first second) First Second
 
 abbrev pub pair_model : Option Side → Model → Model → Model
 pair_model out a b =
-    limited (standing out a.table b.table) (min a.capacity b.capacity) (smaller a.capacity b.capacity)
+    limited (standing out a.table b.table) (min a.capacity b.capacity) (number_of (smaller a.capacity b.capacity))
+
+-- the rows that have to be equal: those of both sides, or those of the side that is out and none
+abbrev pub one_side : Option Side → List TableRow → List TableRow → List TableRow
+one_side None a b = a
+one_side (Some First) a b = a
+one_side (Some Second) a b = b
+
+abbrev pub other_side : Option Side → List TableRow → List TableRow
+other_side None b = b
+other_side (Some side) b = []
 
 abbrev pub Together : Option Side → List TableRow → List TableRow → Type 0
-Together None a b = a ≡ b
-Together (Some First) a b = a ≡ []
-Together (Some Second) a b = b ≡ []
-
-pub record PairSound (FirstSound SecondSound : Type 0) (out : Option Side) (a b : Model) : Type 0 where
-  pub first : FirstSound
-  pub second : SecondSound
-  pub together : Together out a.table b.table
-  pub short : length (standing out a.table b.table) ≤ min a.capacity b.capacity
-
-abbrev pub out_number : Option Side → ℕ
-out_number None = 0
-out_number (Some First) = 1
-out_number (Some Second) = 2
-
-abbrev pub side_of : ℕ → Option Side
-side_of number = cond (number == 1) (Some First) (cond (number == 2) (Some Second) None)
+Together out a b = one_side out a b ≡ other_side out b

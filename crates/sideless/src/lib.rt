@@ -13,18 +13,16 @@ pub struct Sideless<S> {
 impl<S: Store> Store for Sideless<S> {
     ghost model = { λ s. S.Store.model s.store };
 
-    ghost sound = { λ s. S.Store.sound s.store };
-
-    fn keep(&mut self, cluster: u8, number: u32, words: &[u64]) -> Result<(), StoreRefusal> {
-        self.store.keep(cluster, number, words)
+    fn keep(&mut self, key: RowKey, words: &[u64]) -> Result<(), StoreRefusal> {
+        self.store.keep(key, words)
     }
 
-    fn discard(&mut self, cluster: u8, number: u32) -> Result<(), StoreRefusal> {
-        self.store.discard(cluster, number)
+    fn discard(&mut self, key: RowKey) -> Result<(), StoreRefusal> {
+        self.store.discard(key)
     }
 
-    fn read(&self, cluster: u8, number: u32, buffer: &mut [u64]) -> Result<usize, StoreRefusal> {
-        self.store.read(cluster, number, buffer)
+    fn read(&self, key: RowKey, buffer: &mut [u64]) -> Result<usize, StoreRefusal> {
+        self.store.read(key, buffer)
     }
 
     fn count(&self) -> usize {

@@ -1,8 +1,10 @@
 -- Two rising tables that hold the same pairs have the same first row: else the smaller of the two would be ahead
 -- of everything in the other table. So the pairs are the same exactly when they are the same row by row.
-use Rattle.std.proofs.Common.{◌≡◌, ℕ, zero, suc, ◌<◌, Bool, true, false, ◌⊎◌, List, [], ◌∷◌, length, is_some, Some, Decides, sym, refl, ap, ◌∙◌, inl, inr, arith}
+use Rattle.std.proofs.Common.{◌≡◌, ℕ, zero, suc, ◌<◌, Bool, true, false, ◌⊎◌, List, [], ◌∷◌, length, is_some, Some, Decides, MatchBool, get_or, subst, sym, refl, ap, ◌∙◌, inl, inr, arith}
 use Rattle.std.proofs.lemmas.Bool.{cond-true, cond-false, cases_Bool, both_ways}
 use Rattle.std.proofs.lemmas.Bool.Decides.{nat_tests}
+use Rattle.std.proofs.lemmas.List.FromFn.{length-range_with_len, get_or-range_with_len}
+use Rattle.std.specs.List.{AllWithin, HoldsAt, range_with_len}
 use Rattle.store.specs.Table.{TableRow, both, under, before, lookup, row_at}
 use Rattle.store.specs.Formed.{leads, rising}
 use Rattle.store.specs.Agree.{Agree, agreeing, same_key}
@@ -93,3 +95,25 @@ agree_to (x ∷ xs) (y ∷ ys) up vp same =
 
 pub agree_decides : (a b : List TableRow) (r : Bool) → rising a ≡ true → rising b ≡ true → r ≡ agreeing a b → Decides r (Agree a b)
 agree_decides a b r up vp e = ((λ t. agree_from a b (sym e ∙ t)), (λ same. e ∙ agree_to a b up vp same))
+
+-- the rows at a position have the same key, or differ
+abbrev pub Alike : List TableRow → List TableRow → ℕ → Type 0
+Alike a b at = same_key (row_at a at) (row_at b at) ≡ true
+
+abbrev pub Unlike : List TableRow → List TableRow → ℕ → Type 0
+Unlike a b at = same_key (row_at a at) (row_at b at) ≡ false
+
+position_at : (n i : ℕ) → i < n → get_or (range_with_len 0 n) i 0 ≡ i
+position_at n i lt = let at = get_or-range_with_len 0 n i 0 lt in omega arith
+
+-- what a test of every position tells
+pub agreeing_by : (a b : List TableRow) (n : ℕ) (r : Bool) → length a ≡ n → length b ≡ n
+    → MatchBool r (AllWithin (Alike a b) (range_with_len 0 n) 0 (length (range_with_len 0 n))) ((k : ℕ) × (k < length (range_with_len 0 n)) × HoldsAt (Unlike a b) (range_with_len 0 n) k)
+    → r ≡ agreeing a b
+agreeing_by a b n true la lb all =
+    let len = length-range_with_len 0 n in
+    sym (agreeing_all a b (la ∙ sym lb) (λ i lt. subst (Alike a b) (position_at n i (omega arith)) (all i 0 (omega arith) (omega arith))))
+agreeing_by a b n false la lb one =
+    let len = length-range_with_len 0 n in
+    let within = one.1 in
+    sym (agreeing_differ a b one.0 (omega arith) (subst (Unlike a b) (position_at n one.0 (omega arith)) (one.2 0)))

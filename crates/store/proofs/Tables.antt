@@ -2,11 +2,17 @@
 -- where a row goes in and which one comes out; and a row more or less leaves a table formed.
 use Rattle.std.proofs.Common.{◌≡◌, ℕ, zero, suc, ◌<◌, ◌≤◌, Bool, true, false, cond, leb, List, [], ◌∷◌, length, get_or, take, is_some, Some, None, Ok, Err, Option, Result, refl, ap, ◌∙◌, subst, arith}
 use Rattle.std.proofs.lemmas.Bool.{cond-true, cond-false, cond_both, leb-false, lt-leb}
+use Rattle.std.proofs.lemmas.Bool.Decides.{nat_tests}
+use Rattle.std.specs.declared.cmp.Ordering.{Ordering}
+use Rattle.std.specs.declared.cmp.Ordering.TheVariants.{Less, Equal, Greater}
+use Rattle.std.specs.Ordering.{MatchOrdering}
 use Rattle.std.specs.List.{insert as inserted, remove as removed}
 use Rattle.refusal.specs.declared.StoreRefusal.{StoreRefusal}
-use Rattle.store.specs.Table.{TableRow, Model, under, before, lookup, insert, remove, words_fit, keep_refusal, keep_model, drop_model, unless, with_table, key_of, row_at}
+use Rattle.refusal.specs.Answers.{unless_refused}
+use Rattle.store.specs.Table.{TableRow, Model, under, before, lookup, insert, remove, words_fit, keep_refusal, keep_model, drop_model, with_table, key_of, row_at}
 use Rattle.store.specs.Formed.{leads, rising, sized, Formed}
-use Rattle.store.specs.Seek.{seek, onward}
+use Rattle.ordered.specs.Seek.{seek, stands, onward}
+use Rattle.store.specs.Seek.{row_order}
 use Rattle.store.proofs.Orders.{both_true, both_from, before-under, before_trans, before-total, after-under, after-before, under_own}
 
 abbrev pub new_row : ℕ → ℕ → List ℕ → TableRow
@@ -38,15 +44,18 @@ placed_on row rows c n (Ok i) nb nu p =
 placed_on row rows c n (Err i) nb nu p =
     (omega (arith, p.0), cond-false _ _ _ nu ∙ p.1, (λ ws. cond-false _ _ _ nb ∙ ap (λ rest. row ∷ rest) (p.2 ws)))
 
-pub placed : (rows : List TableRow) (c n : ℕ) → rising rows ≡ true → Placed rows c n (seek key_of rows c n)
+-- how a row's key compares with the one sought, and what the tests of the row say then
+compared : (c n : ℕ) (row : TableRow) → MatchOrdering (row_order (key_of row) (record { cluster = c; number = n })) ((before c n row ≡ false) × (under c n row ≡ false)) (under c n row ≡ true) (before c n row ≡ true)
+compared c n row = grind (arith, nat_tests)
+
+pub placed : (rows : List TableRow) (c n : ℕ) → rising rows ≡ true → Placed rows c n (seek row_order key_of rows (record { cluster = c; number = n }))
 placed [] c n up = (omega arith, refl, λ ws. refl)
-placed (row ∷ rows) c n up =
-    let parts = both_true (leads row.cluster row.number rows) (rising rows) up in
-    cond_both (before c n row) _ _ (Placed (row ∷ rows) c n)
-    (λ b. (omega arith, lookup-ahead (row ∷ rows) c n b up, (λ ws. cond-true _ _ _ b)))
-    (λ nb. cond_both (under c n row) _ _ (Placed (row ∷ rows) c n)
-    (λ u. (omega arith, (λ d. cond-true _ _ _ u), cond-true _ _ _ u))
-    (λ nu. placed_on row rows c n _ nb nu (placed rows c n parts.1)))
+placed (row ∷ rows) c n up = by_order (row_order (key_of row) (record { cluster = c; number = n })) (compared c n row) (placed rows c n (both_true (leads row.cluster row.number rows) (rising rows) up).1)
+  where
+    by_order : (o : Ordering) → MatchOrdering o ((before c n row ≡ false) × (under c n row ≡ false)) (under c n row ≡ true) (before c n row ≡ true) → Placed rows c n (seek row_order key_of rows (record { cluster = c; number = n })) → Placed (row ∷ rows) c n (stands o (seek row_order key_of rows (record { cluster = c; number = n })))
+    by_order Less m p = placed_on row rows c n _ m.0 m.1 p
+    by_order Equal u p = (omega arith, (λ d. cond-true _ _ _ u), cond-true _ _ _ u)
+    by_order Greater b p = (omega arith, lookup-ahead (row ∷ rows) c n b up, (λ ws. cond-true _ _ _ b))
 
 -- the tests behind a row that is not held
 pub none_parts : {A : Type 0} (b : Bool) (x : A) (o : Option A) → cond b (Some x) o ≡ None → (b ≡ false) × (o ≡ None)
@@ -135,7 +144,7 @@ some_none e = let z : ◌≡◌ {A = ℕ} 0 1 = cc in omega arith
 -- a table stays formed
 pub formed_keep : (m : Model) (c n : ℕ) (ws : List ℕ) → Formed m → Formed (keep_model m c n ws)
 formed_keep m c n ws f =
-    let after : Option _ → Type 0 = λ why. Formed (unless why m (with_table m (insert (new_row c n ws) m.table))) in
+    let after : Option _ → Type 0 = λ why. Formed (unless_refused why m (with_table m (insert (new_row c n ws) m.table))) in
     cond_both (words_fit (length ws)) _ _ after
     (λ fit. cond_both (is_some (lookup m.table c n)) _ _ after (λ _. f)
     (λ free. cond_both (leb m.capacity (length m.table)) _ _ after (λ _. f)
@@ -175,7 +184,7 @@ allowed m c n ws =
 
 -- what the store means after it
 pub keep_allowed : (m : Model) (c n : ℕ) (ws : List ℕ) → keep_refusal m c n ws ≡ None → keep_model m c n ws ≡ with_table m (insert (new_row c n ws) m.table)
-keep_allowed m c n ws e = ap (λ why. unless why m (with_table m (insert (new_row c n ws) m.table))) e
+keep_allowed m c n ws e = ap (λ why. unless_refused why m (with_table m (insert (new_row c n ws) m.table))) e
 
 -- every row behind the first comes after it
 pub all_behind : (row : TableRow) (rows : List TableRow) (i : ℕ) (d : TableRow) → rising (row ∷ rows) ≡ true → i < length rows → before row.cluster row.number (get_or rows i d) ≡ true
@@ -233,6 +242,6 @@ keep_free m c n ws a =
 pub length_keep_le : (m : Model) (c n : ℕ) (ws : List ℕ) → length (keep_model m c n ws).table ≤ suc (length m.table)
 length_keep_le m c n ws = by_refusal (keep_refusal m c n ws)
   where
-    by_refusal : (why : Option StoreRefusal) → length (unless why m (with_table m (insert (new_row c n ws) m.table))).table ≤ suc (length m.table)
+    by_refusal : (why : Option StoreRefusal) → length (unless_refused why m (with_table m (insert (new_row c n ws) m.table))).table ≤ suc (length m.table)
     by_refusal None = let longer = length-insert (new_row c n ws) m.table in omega arith
     by_refusal (Some why) = omega arith

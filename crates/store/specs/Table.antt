@@ -8,9 +8,9 @@
 --   read_refusal  why read refuses, if it does; read_count, read_buffer what it tells and leaves in the buffer
 --   position_at   the cluster and number of the row at a position
 --   key_of        the cluster and number of a row
---   told          the answer of a call that tells something unless it was refused
-use Rattle.std.specs.Prelude.{ℕ, zero, suc, Bool, true, false, cond, List, [], ◌∷◌, ◌++◌, length, drop, is_some, Some, None, Ok, Err, Option, Result, ◌==◌, nat_le, nat_lt}
+use Rattle.std.specs.Prelude.{ℕ, zero, suc, Bool, true, false, cond, List, [], ◌∷◌, ◌++◌, length, drop, is_some, Some, None, Option, Result, ◌==◌, nat_le, nat_lt}
 use Rattle.std.specs.Option.{unwrap_or, ok_or}
+use Rattle.refusal.specs.Answers.{unless_refused}
 use Rattle.store.specs.declared.RowKey.{RowKey}
 use Rattle.refusal.specs.declared.StoreRefusal.{StoreRefusal}
 use Rattle.refusal.specs.declared.StoreRefusal.TheVariants as refuses
@@ -59,16 +59,7 @@ remove (row ∷ rows) c n = cond (under c n row) rows (row ∷ remove rows c n)
 abbrev pub with_table : Model → List TableRow → Model
 with_table m rows = record { table = rows; capacity = m.capacity; full = m.full }
 
--- a refused call leaves the store as it was
-abbrev pub unless : {A : Type 0} → Option StoreRefusal → A → A → A
-unless (Some why) was new = was
-unless None was new = new
-
 -- the answer of a call that tells nothing but whether it was refused
-abbrev pub answered : Option StoreRefusal → Result Unit StoreRefusal
-answered (Some why) = Err why
-answered None = Ok tt
-
 -- 1 to 32 words
 abbrev pub words_fit : ℕ → Bool
 words_fit count = both (nat_le 1 count) (nat_le count 32)
@@ -82,7 +73,7 @@ keep_refusal m c n ws =
 
 abbrev pub keep_model : Model → ℕ → ℕ → List ℕ → Model
 keep_model m c n ws =
-    unless (keep_refusal m c n ws) m
+    unless_refused (keep_refusal m c n ws) m
     (with_table m (insert (record { cluster = c; number = n; words = ws }) m.table))
 
 abbrev pub drop_refusal : Model → ℕ → ℕ → Option StoreRefusal
@@ -90,10 +81,6 @@ drop_refusal m c n = cond (is_some (lookup m.table c n)) None (Some refuses.NotH
 
 abbrev pub drop_model : Model → ℕ → ℕ → Model
 drop_model m c n = with_table m (remove m.table c n)
-
-abbrev pub told : {A : Type 0} → Option StoreRefusal → A → Result A StoreRefusal
-told (Some why) x = Err why
-told None x = Ok x
 
 -- why these words, if any are held, are not read into a buffer with so much room
 abbrev pub read_refused : Option (List ℕ) → ℕ → Option StoreRefusal
@@ -112,7 +99,7 @@ over ws buffer = ws ++ drop (length ws) buffer
 
 abbrev pub read_buffer : Model → ℕ → ℕ → List ℕ → List ℕ
 read_buffer m c n buffer =
-    unless (read_refusal m c n (length buffer)) buffer (over (unwrap_or (lookup m.table c n) []) buffer)
+    unless_refused (read_refusal m c n (length buffer)) buffer (over (unwrap_or (lookup m.table c n) []) buffer)
 
 abbrev pub key_of : TableRow → RowKey
 key_of row = record { cluster = row.cluster; number = row.number }

@@ -7,8 +7,6 @@ use crate::Store;
 
 // Both tables stand in the same order, so it is enough to compare them position by position.
 pub fn agree<A: Store, B: Store>(a: &A, b: &B) -> bool
-    requires a_sound { A.Store.sound a.now }
-    requires b_sound { B.Store.sound b.now }
     ensures value { result ≡ agreeing (A.Store.model a.now).table (B.Store.model b.now).table }
     ensures meaning { Decides result (Agree (A.Store.model a.now).table (B.Store.model b.now).table) }
 {
@@ -16,21 +14,14 @@ pub fn agree<A: Store, B: Store>(a: &A, b: &B) -> bool
     if count != b.count() {
         return false;
     }
-    for at in 0..count {
-        if !same_at(a, b, at) {
-            return false;
-        }
-    }
-    true
+    (0..count).all(|at| same_at(a, b, at))
 }
 
 fn same_at<A: Store, B: Store>(a: &A, b: &B, at: usize) -> bool
-    requires a_sound { A.Store.sound a.now }
-    requires b_sound { B.Store.sound b.now }
     ensures { result ≡ same_key (row_at (A.Store.model a.now).table at) (row_at (B.Store.model b.now).table at) }
 {
     match (a.position(at), b.position(at)) {
-        (Ok(x), Ok(y)) => x.is(y),
+        (Ok(x), Ok(y)) => x == y,
         _ => false,
     }
 }

@@ -3,7 +3,8 @@
 #![tactic(auto)]
 
 ghost use Rattle.std.specs.Prelude.{◌≡◌, ℕ, length};
-ghost use Rattle.store.specs.Table.{Model, keep_refusal, keep_model, drop_refusal, drop_model, answered, told, read_refusal, read_count, read_buffer, position_at};
+ghost use Rattle.refusal.specs.Answers.{replied};
+ghost use Rattle.store.specs.Table.{Model, keep_refusal, keep_model, drop_refusal, drop_model, read_refusal, read_count, read_buffer, position_at};
 ghost use Rattle.store.specs.Formed.{Formed};
 ghost use Rattle.store.specs.Sides.{lose_refusal, lose_out, rebuild_refusal, rebuild_out};
 
@@ -15,13 +16,13 @@ mod find;
 
 pub use compare::agree;
 pub use copy::copy_words;
-pub use find::{RowRecord, find_row, key_at};
+pub use find::key_at;
 
 // The words of a checkpoint: one for each node of a cluster, and a cluster has at most 32 nodes.
 pub const MOST_WORDS: usize = 32;
 
-// What a row is kept under.
-#[derive(Clone, Copy, PartialEq, Eq, Debug)]
+// What a row is kept under; rows stand in this order, by cluster, then number.
+#[derive(Clone, Copy, PartialEq, Eq, PartialOrd, Ord, Debug)]
 pub struct RowKey {
     pub cluster: u8,
     pub number: u32,
@@ -31,43 +32,31 @@ pub trait Store {
     // What the store means.
     ghost model: { Self → Model };
 
-    // What a store has to be for its calls to answer as they say. Whoever makes a store gives it and every
-    // call keeps it; it is the only thing that a call requires.
-    ghost sound: { Self → Type 0 } = { λ _. Unit {0} };
-
     // Adds a row.
-    fn keep(&mut self, cluster: u8, number: u32, words: &[u64]) -> Result<(), StoreRefusal>
-        requires { sound self.old }
-        ensures answer { result ≡ answered (keep_refusal (model self.old) cluster number words.now) }
-        ensures after { model self.new ≡ keep_model (model self.old) cluster number words.now }
-        ensures sound { sound self.new };
+    fn keep(&mut self, key: RowKey, words: &[u64]) -> Result<(), StoreRefusal>
+        ensures answer { result ≡ replied (keep_refusal (model self.old) key.cluster key.number words.now) tt }
+        ensures after { model self.new ≡ keep_model (model self.old) key.cluster key.number words.now };
 
     // Drops a row.
-    fn discard(&mut self, cluster: u8, number: u32) -> Result<(), StoreRefusal>
-        requires { sound self.old }
-        ensures answer { result ≡ answered (drop_refusal (model self.old) cluster number) }
-        ensures after { model self.new ≡ drop_model (model self.old) cluster number }
-        ensures sound { sound self.new };
+    fn discard(&mut self, key: RowKey) -> Result<(), StoreRefusal>
+        ensures answer { result ≡ replied (drop_refusal (model self.old) key.cluster key.number) tt }
+        ensures after { model self.new ≡ drop_model (model self.old) key.cluster key.number };
 
     // Copies a row's words to the front of the buffer, and tells how many they are.
-    fn read(&self, cluster: u8, number: u32, buffer: &mut [u64]) -> Result<usize, StoreRefusal>
-        requires { sound self.now }
-        ensures answer { result ≡ told (read_refusal (model self.now) cluster number (length buffer.old)) (read_count (model self.now) cluster number) }
-        ensures buffer { buffer.new ≡ read_buffer (model self.now) cluster number buffer.old };
+    fn read(&self, key: RowKey, buffer: &mut [u64]) -> Result<usize, StoreRefusal>
+        ensures answer { result ≡ replied (read_refusal (model self.now) key.cluster key.number (length buffer.old)) (read_count (model self.now) key.cluster key.number) }
+        ensures buffer { buffer.new ≡ read_buffer (model self.now) key.cluster key.number buffer.old };
 
     // How many rows there are; and whoever asks learns that they are as a table has to be.
     fn count(&self) -> usize
-        requires { sound self.now }
         ensures answer { result ≡ length (model self.now).table }
         ensures formed { Formed (model self.now) };
 
     fn capacity(&self) -> usize
-        requires { sound self.now }
         ensures { result ≡ (model self.now).capacity };
 
     // What the row at a position is kept under; the first row is at 0.
     fn position(&self, at: usize) -> Result<RowKey, StoreRefusal>
-        requires { sound self.now }
         ensures { result ≡ position_at (model self.now) at };
 }
 
@@ -80,19 +69,15 @@ pub trait SidedStore: Store {
 
     // Empties a side; until it is rebuilt, calls reach the rest.
     fn lose(&mut self, side: u8) -> Result<(), StoreRefusal>
-        requires { Self.Store.sound self.old }
-        ensures answer { result ≡ answered (lose_refusal (sides self.old) (out self.old) side) }
+        ensures answer { result ≡ replied (lose_refusal (sides self.old) (out self.old) side) tt }
         ensures after { Self.Store.model self.new ≡ Self.Store.model self.old }
         ensures out { out self.new ≡ lose_out (sides self.old) (out self.old) side }
-        ensures sides { sides self.new ≡ sides self.old }
-        ensures sound { Self.Store.sound self.new };
+        ensures sides { sides self.new ≡ sides self.old };
 
     // Fills a side that is out from the rest.
     fn rebuild(&mut self, side: u8) -> Result<(), StoreRefusal>
-        requires { Self.Store.sound self.old }
-        ensures answer { result ≡ answered (rebuild_refusal (sides self.old) (out self.old) side) }
+        ensures answer { result ≡ replied (rebuild_refusal (sides self.old) (out self.old) side) tt }
         ensures after { Self.Store.model self.new ≡ Self.Store.model self.old }
         ensures out { out self.new ≡ rebuild_out (sides self.old) (out self.old) side }
-        ensures sides { sides self.new ≡ sides self.old }
-        ensures sound { Self.Store.sound self.new };
+        ensures sides { sides self.new ≡ sides self.old };
 }

@@ -17,10 +17,7 @@ returns g c =
     let count = c.in-Ok-read.count in
     let ws = take (count - 0) c.read.new.buffer in
     let cut : ws ≡ take count c.read.new.buffer = ap (λ k. take k c.read.new.buffer) (omega arith) in
-    record {
-      after = c.keep.ensures.after ∙
-          copied (g.F.Store.model c.args.from.now) c.requires.formed c.args.at c.requires.within c.in-Ok.key
-          c.in-Ok.ensures (g.T.Store.model c.args.to.now) count (replicate 32 0) c.read.new.buffer ws
-          c.requires.fits c.requires.front c.in-Ok-read.ensures.answer c.read.ensures.buffer cut;
-      sound = c.keep.ensures.sound;
-    }
+    c.keep.ensures.after
+    ∙ copied (g.F.Store.model c.args.from.now) c.requires.formed c.args.at c.requires.within c.in-Ok.key
+    c.in-Ok.ensures (g.T.Store.model c.args.to.now) count (replicate 32 0) c.read.new.buffer ws
+    c.requires.fits c.requires.front c.in-Ok-read.ensures.answer c.read.ensures.buffer cut

@@ -7,11 +7,10 @@ use Rattle.moves.proofs.drop_row.Goals as goal
 pub returns : goal.returns
 returns g c =
     let rows = (g.S.Store.model c.args.store.now).table in
-    let fewer = length-remove_le rows c.args.cluster c.args.number in
+    let fewer = length-remove_le rows c.args.key.cluster c.args.key.number in
     let same = ap (λ (m : Model). length m.table) c.discard.ensures.after in
     record {
       answer = c.discard.ensures.answer;
       after = c.discard.ensures.after;
-      sound = c.discard.ensures.sound;
       short = omega arith;
     }

@@ -8,7 +8,4 @@ pub returns : goal.returns
 returns g c =
     let m = g.S.Store.model c.loop-store.store in
     let none : m.table ≡ [] = nil_from_length m.table (omega arith) in
-    record {
-      after = c.loop-store.invariant.1 ∙ ap (with_table (g.S.Store.model c.args.store.now)) none;
-      sound = c.loop-store.invariant.0;
-    }
+    c.loop-store.invariant ∙ ap (with_table (g.S.Store.model c.args.store.now)) none

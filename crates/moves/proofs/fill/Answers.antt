@@ -6,8 +6,5 @@ use Rattle.moves.proofs.fill.Goals as goal
 
 pub returns : goal.returns
 returns g c =
-    let rows = (g.F.Store.model c.args.from.now).table in
-    record {
-      after = c.loop-at.invariant.1 ∙ ap (with_table (g.T.Store.model c.args.to.now)) (take_all c.loop-at.at rows (omega arith));
-      sound = c.loop-at.invariant.0;
-    }
+    c.loop-at.invariant
+    ∙ ap (with_table (g.T.Store.model c.args.to.now)) (take_all c.loop-at.at (g.F.Store.model c.args.from.now).table (omega arith))

@@ -4,14 +4,13 @@ use Rattle.store.specs.Table.{Model}
 use Rattle.store.proofs.Tables.{length_keep_le}
 use Rattle.moves.proofs.keep_within.Goals as goal
 
-pub returns-then-count-capacity : goal.returns-then-count-capacity
-returns-then-count-capacity g c =
+pub returns-then-count-limit : goal.returns-then-count-limit
+returns-then-count-limit g c =
     let m = g.S.Store.model c.args.store.now in
-    let longer = length_keep_le m c.args.cluster c.args.number c.args.words.now in
+    let longer = length_keep_le m c.args.key.cluster c.args.key.number c.args.words.now in
     let same = ap (λ (after : Model). length after.table) c.keep.ensures.after in
     record {
       answer = search rules;
       after = search rules;
-      sound = c.keep.ensures.sound;
       short = λ _. omega arith;
     }
