@@ -4,7 +4,8 @@ use Rattle.std.specs.List.{range_with_len}
 use Rattle.std.proofs.lemmas.Bool.{cases_eq, cases_lt, ltb-true, eqb-false}
 use Rattle.refusal.specs.declared.Refusal.TheVariants as refuses
 use Rattle.refusal.specs.declared.StoreRefusal.{StoreRefusal}
-use Rattle.store.specs.Table.{Model, TableRow, lookup, insert, keep_refusal, keep_model, with_table, unless, both}
+use Rattle.refusal.specs.Answers.{unless_refused}
+use Rattle.store.specs.Table.{Model, TableRow, lookup, insert, keep_refusal, keep_model, with_table, both}
 use Rattle.law.specs.declared.Message.{Message}
 use Rattle.law.specs.declared.Logged.{Logged}
 use Rattle.law.specs.declared.Checkpoint.{Checkpoint}
@@ -25,7 +26,8 @@ use Rattle.law.proofs.Among.{among_left, among_right, among_append, among_map}
 use Rattle.law.proofs.LogSteps.{logs_saved, logs_sent, logs_got}
 use Rattle.law.proofs.Rows.{unique-insert}
 use Rattle.law.proofs.Tables.{standing_quiet, standing-saved, standing_ways}
-use Rattle.law.proofs.State.{State, RoundAgrees, passes, escapes, not_some, both_true, set_all, set_here, set_there, grows_put}
+use Rattle.store.proofs.Orders.{both_true}
+use Rattle.law.proofs.State.{State, RoundAgrees, passes, escapes, not_some, set_all, set_here, set_there, grows_put}
 use Rattle.law.proofs.Quiet.{restart_none}
 
 -- a row stays right over an event that brings nothing to it
@@ -327,7 +329,7 @@ deliver_state n nodes b h st y ya yn quiet none fresh =
         }
 
 pub keep_table : (m : Model) (c k : ℕ) (ws : List ℕ) → keep_refusal m c k ws ≡ None → (keep_model m c k ws).table ≡ insert (record { cluster = c; number = k; words = ws }) m.table
-keep_table m c k ws e = ap (λ (z : Option StoreRefusal). (unless z m (with_table m (insert (record { cluster = c; number = k; words = ws }) m.table))).table) e
+keep_table m c k ws e = ap (λ (z : Option StoreRefusal). (unless_refused z m (with_table m (insert (record { cluster = c; number = k; words = ws }) m.table))).table) e
 
 -- a checkpoint: the cluster after it
 pub agrees_saved : (n i : ℕ) (c : Cluster) (o t : ℕ) (ws : List ℕ) (L : List Event) → n ≤ 8 → i < n → o ≤ number L → ClusterAgrees n i c o L → ClusterAgrees n i (saved_in i c) o (saved t ws ∷ L)

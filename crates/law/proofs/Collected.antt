@@ -5,7 +5,8 @@ use Rattle.std.proofs.lemmas.List.{get_or_default}
 use Rattle.std.proofs.lemmas.Bool.{leb-true, cases_lt}
 use Rattle.refusal.specs.declared.Refusal.{Refusal}
 use Rattle.refusal.specs.declared.Refusal.TheVariants as refuses
-use Rattle.law.specs.Book.{Book, count, replied, unless_refused}
+use Rattle.refusal.specs.Answers.{replied, unless_refused}
+use Rattle.law.specs.Book.{Book, count}
 use Rattle.law.specs.Trials.{Collected, bounds, collect_refusal, collected, received_from}
 use Rattle.law.specs.History.{Told, tell_bounds}
 use Rattle.law.specs.Law.{Collecting}

@@ -7,7 +7,8 @@ use Rattle.refusal.specs.declared.Refusal.{Refusal}
 use Rattle.refusal.specs.declared.Refusal.TheVariants as refuses
 use Rattle.refusal.specs.declared.StoreRefusal.{StoreRefusal}
 use Rattle.refusal.specs.declared.StoreRefusal.TheVariants as store_refuses
-use Rattle.store.specs.Table.{Model, TableRow, lookup, insert, keep_refusal, with_table, unless, words_fit, both}
+use Rattle.refusal.specs.Answers.{unless_refused}
+use Rattle.store.specs.Table.{Model, TableRow, lookup, insert, keep_refusal, with_table, words_fit, both}
 use Rattle.law.specs.declared.Message.{Message}
 use Rattle.law.specs.declared.Checkpoint.{Checkpoint}
 use Rattle.law.specs.Book.{Cluster, at, nobody}
@@ -21,7 +22,8 @@ use Rattle.law.proofs.Kept.{ClusterAgrees, Row_is}
 use Rattle.law.proofs.Rows.{unique-insert, insert_same, insert_other}
 use Rattle.law.proofs.Tables.{Standing, standing_ways}
 use Rattle.law.proofs.Logs.{Logs}
-use Rattle.law.proofs.State.{State, both_true}
+use Rattle.store.proofs.Orders.{both_true}
+use Rattle.law.proofs.State.{State}
 use Rattle.law.proofs.Adding.{keep_table}
 
 pub first_count : (n : ℕ) → length (first_clusters n) ≡ n
@@ -155,7 +157,7 @@ module _ (nodes : ℕ) where
         (λ i k. ap (λ (z : List TableRow). lookup z i k) is ∙ added s m ih.0 free i k),
         subst Unique (sym is) (unique-insert s.table m 1 (replicate nodes 0) free ih.1),
         ap length is ∙ length-insert (record { cluster = m; number = 1; words = replicate nodes 0 }) s.table ∙ ap suc size,
-        ap (λ (z : Option StoreRefusal). (unless z s (with_table s (insert (record { cluster = m; number = 1; words = replicate nodes 0 }) s.table))).capacity) ok ∙ cap,
+        ap (λ (z : Option StoreRefusal). (unless_refused z s (with_table s (insert (record { cluster = m; number = 1; words = replicate nodes 0 }) s.table))).capacity) ok ∙ cap,
       )
     where
       added : (s : Model) (m : ℕ) → ((i k : ℕ) → lookup s.table i k ≡ standing m H ones i k) → lookup s.table m 1 ≡ None →

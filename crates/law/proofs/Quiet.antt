@@ -21,7 +21,8 @@ use Rattle.law.proofs.Moves.{Move}
 use Rattle.law.proofs.Going.{Going, Clusters, places_of, places_ways, called_ways, carry_going, moved_here, moved_there}
 use Rattle.law.proofs.Begun.{begun_going, just}
 use Rattle.law.proofs.Drains.{drained_done, taken_less, alerts-set}
-use Rattle.law.proofs.State.{State, Open, RoundAgrees, RestartAgrees, sum_to, moves_left, passes, escapes, not_some, both_true, set_all, clusters_same}
+use Rattle.store.proofs.Orders.{both_true}
+use Rattle.law.proofs.State.{State, Open, RoundAgrees, RestartAgrees, sum_to, moves_left, passes, escapes, not_some, set_all, clusters_same}
 use Rattle.law.proofs.Budget.{length_from, sum_less, sum_but_one, trues_others, failed-stays}
 
 pub none_answers : (m rank w : ℕ) → get_or {A = Option ℕ} (replicate m None) rank None ≡ Some w → ⊥

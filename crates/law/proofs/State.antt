@@ -2,11 +2,12 @@
 use Rattle.std.proofs.Common.{◌≡◌, ℕ, zero, suc, ◌+◌, ◌-◌, ◌*◌, ◌<◌, ◌≤◌, Bool, true, false, cond, List, [], ◌∷◌, length, get_or, set, is_some, Some, None, Option, sym, refl, ◌∙◌, subst, inl, inr, arith, get_or-set_other, get_or-set_same}
 use Rattle.std.proofs.lemmas.Bool.{cases_eq, true≢false}
 use Rattle.refusal.specs.declared.Refusal.{Refusal}
-use Rattle.store.specs.Table.{lookup, both}
+use Rattle.store.specs.Table.{lookup}
 use Rattle.law.specs.declared.Logged.{Logged}
 use Rattle.law.specs.declared.Round.{Round}
 use Rattle.law.specs.declared.Restart.{Restart}
-use Rattle.law.specs.Book.{Book, Cluster, at, nobody, unless_refused, replied}
+use Rattle.refusal.specs.Answers.{unless_refused, replied}
+use Rattle.law.specs.Book.{Book, Cluster, at, nobody}
 use Rattle.law.specs.Law.{Among, standing, Unique}
 use Rattle.law.specs.Calls.{Call, Value}
 use Rattle.law.specs.Events.{Event, Lists, saved, ◌∈◌, number}
@@ -84,10 +85,6 @@ escapes false why rest e = (refl, e)
 pub not_some : {A : Type 0} (o : Option A) → is_some o ≡ false → o ≡ None
 not_some None e = refl
 not_some (Some a) e = absurd (true≢false e)
-
-pub both_true : (a b : Bool) → both a b ≡ true → (a ≡ true) × (b ≡ true)
-both_true true b e = (refl, e)
-both_true false b e = absurd (true≢false (sym e))
 
 -- one cluster put in the place of another
 module _ (cs : List Cluster) (i : ℕ) (c : Cluster) (hi : i < length cs) where

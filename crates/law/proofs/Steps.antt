@@ -4,7 +4,8 @@ use Rattle.std.proofs.Common.{◌≡◌, ℕ, List, [], ◌∷◌, is_some, Some
 use Rattle.refusal.specs.declared.Refusal.{Refusal}
 use Rattle.refusal.specs.declared.Refusal.TheVariants as refuses
 use Rattle.law.specs.declared.Restart.{Restart}
-use Rattle.law.specs.Book.{Book, Ticket, replied}
+use Rattle.refusal.specs.Answers.{replied}
+use Rattle.law.specs.Book.{Book, Ticket}
 use Rattle.law.specs.Messages.{Rule, Meaning, send_refusal, arrive_refusal}
 use Rattle.law.specs.Rounds.{request_refusal, answer_refusal, from_store}
 use Rattle.law.specs.Restarts.{fault_refusal, alert_refusal, finish_refusal, resume_refusal, resume_at, resumed, resumed_tells, holds}
@@ -12,7 +13,8 @@ use Rattle.law.specs.Trials.{trial_refusal, collect_refusal}
 use Rattle.law.specs.Storing.{read_refusal}
 use Rattle.law.specs.Calls.{Call, Value, request, answer, send, arrive, fault, alert, finish, resume, trial, collect, read, lose, rebuild, reply, step, run, after}
 use Rattle.law.specs.History.{Told, tell, history, tell_places}
-use Rattle.law.proofs.State.{State, by_refusal, passes, escapes, not_some, both_true}
+use Rattle.store.proofs.Orders.{both_true}
+use Rattle.law.proofs.State.{State, by_refusal, passes, escapes, not_some}
 use Rattle.law.proofs.Quiet.{request_state, fault_state, alert_state, finish_state, open_restart}
 use Rattle.law.proofs.Adding.{send_state}
 use Rattle.law.proofs.Arrivals.{arrive_state, answer_state}

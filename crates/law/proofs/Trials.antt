@@ -6,7 +6,8 @@ use Rattle.refusal.specs.declared.Refusal.{Refusal}
 use Rattle.refusal.specs.declared.Refusal.TheVariants as refuses
 use Rattle.store.specs.Table.{both}
 use Rattle.law.specs.declared.Restart.{Restart}
-use Rattle.law.specs.Book.{Book, Cluster, Ticket, count, nobody, with_round, with_restart, number, replied, unless_refused}
+use Rattle.refusal.specs.Answers.{replied, unless_refused}
+use Rattle.law.specs.Book.{Book, Cluster, Ticket, count, nobody, with_round, with_restart, number}
 use Rattle.law.specs.Messages.{Rule}
 use Rattle.law.specs.Restarts.{waits, called_to, carried, carry, drained, begun, drop_rounds, told, fault_refusal, faulted, ticket, holds, alert_refusal, alert_book, finish_book, settle, resume_tells, tells_places, again, log_back}
 use Rattle.law.specs.Trials.{trial as trial_places, trial_refusal}

@@ -8,7 +8,8 @@ use Rattle.refusal.specs.declared.Refusal.TheVariants as refuses
 use Rattle.store.specs.Table.{lookup, both}
 use Rattle.law.specs.declared.Checkpoint.{Checkpoint}
 use Rattle.law.specs.declared.Restart.{Restart}
-use Rattle.law.specs.Book.{Book, Ticket, at, count, checkpoint_at, replied, unless_refused, nobody, Cluster}
+use Rattle.refusal.specs.Answers.{replied, unless_refused}
+use Rattle.law.specs.Book.{Book, Ticket, at, count, checkpoint_at, nobody, Cluster}
 use Rattle.law.specs.Messages.{Rule}
 use Rattle.law.specs.Restarts.{place, entry_at, tells_places, resume_refusal, resume_at, resumed, resumed_to, resumed_tells, holds}
 use Rattle.law.specs.Storing.{read_tells, read_refusal, held_by, words_held}
@@ -26,7 +27,8 @@ use Rattle.law.proofs.Kept.{checkpoint_found, checkpoint_ways, number_back_is}
 use Rattle.law.proofs.Going.{places_of, places_ways, entry_is, called_ways, heard_place}
 use Rattle.law.proofs.Logs.{logs_again, logs_once}
 use Rattle.law.proofs.Tables.{standing_ways, given_back}
-use Rattle.law.proofs.State.{State, Open, passes, both_true}
+use Rattle.store.proofs.Orders.{both_true}
+use Rattle.law.proofs.State.{State, Open, passes}
 use Rattle.law.proofs.Quiet.{open_restart}
 use Rattle.law.proofs.Resume.{final, place_ways, goes_back, resumed_state}
 use Rattle.law.proofs.Opened.{opened_state}

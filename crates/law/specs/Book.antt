@@ -8,10 +8,7 @@
 --   number          the number of a cluster's newest checkpoint: its own entry in its row
 --   logged          the message with this id in the log
 --   checkpoint_at   the kept checkpoint with this number
---   unless_refused  a refused call leaves everything as it was
---   replied         the answer of a call: its refusal, or what it tells
-use Rattle.std.specs.Prelude.{ℕ, cond, List, [], ◌∷◌, length, Some, None, Ok, Err, Option, Result, ◌==◌, nat_lt, slice_index, slice_index_or, slice_set}
-use Rattle.refusal.specs.declared.Refusal.{Refusal}
+use Rattle.std.specs.Prelude.{ℕ, cond, List, [], ◌∷◌, length, Some, None, Option, ◌==◌, nat_lt, slice_index, slice_index_or, slice_set}
 use Rattle.store.specs.Table.{Model}
 use Rattle.law.specs.declared.Logged.{Logged}
 use Rattle.law.specs.declared.Checkpoint.{Checkpoint}
@@ -126,11 +123,3 @@ with_store b m =
 
 abbrev pub with_round : Cluster → Option Round → Cluster
 with_round c r = record { row = c.row; kept = c.kept; round = r }
-
-abbrev pub unless_refused : {A : Type 0} → Option Refusal → A → A → A
-unless_refused (Some why) was new = was
-unless_refused None was new = new
-
-abbrev pub replied : {A : Type 0} → Option Refusal → A → Result A Refusal
-replied (Some why) tells = Err why
-replied None tells = Ok tells

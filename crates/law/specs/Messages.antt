@@ -16,7 +16,8 @@ use Rattle.law.specs.declared.Round.{Round}
 use Rattle.law.specs.declared.Sent.{Sent}
 use Rattle.law.specs.declared.Arrived.{Arrived}
 use Rattle.law.specs.declared.Arrived.TheVariants.{Delivered, Forced}
-use Rattle.law.specs.Book.{Book, at, count, entry, number, raised, logged, with_cluster, with_log, with_next_id, with_round, unless_refused, replied, most_kept, most_messages, most_nodes, last_number}
+use Rattle.refusal.specs.Answers.{unless_refused, replied}
+use Rattle.law.specs.Book.{Book, at, count, entry, number, raised, logged, with_cluster, with_log, with_next_id, with_round, most_kept, most_messages, most_nodes, last_number}
 
 abbrev pub Rule : Type 0
 Rule = ℕ → ℕ → ℕ → Bool

@@ -10,7 +10,7 @@
 --   back           a cluster after it went back to its place
 --   undone         a message whose sending is undone at these places
 --   again          the ids of undelivered messages to clusters called back, ascending
-use Rattle.std.specs.Prelude.{ℕ, zero, suc, ◌+◌, ◌-◌, ◌*◌, Bool, true, false, cond, not, ltb, leb, List, [], ◌∷◌, ◌++◌, map, length, get_or, take, replicate, is_some, Some, None, filter, Option, Result, ◌==◌, nat_le, nat_lt, slice_index, slice_index_or, slice_set}
+use Rattle.std.specs.Prelude.{ℕ, zero, suc, ◌+◌, ◌-◌, ◌*◌, Bool, true, false, cond, not, nat_lt, nat_le, List, [], ◌∷◌, ◌++◌, map, length, slice_index_or, take, replicate, is_some, Some, None, filter, Option, Result, ◌==◌, slice_index, slice_set}
 use Rattle.refusal.specs.declared.Refusal.{Refusal}
 use Rattle.refusal.specs.declared.Refusal.TheVariants as refuses
 use Rattle.store.specs.Table.{Model, drop_model, both}
@@ -19,7 +19,8 @@ use Rattle.law.specs.declared.Checkpoint.{Checkpoint}
 use Rattle.law.specs.declared.Alerts.{Alerts}
 use Rattle.law.specs.declared.Restart.{Restart}
 use Rattle.law.specs.declared.Carried.{Carried}
-use Rattle.law.specs.Book.{Book, Cluster, Ticket, at, count, entry, number, checkpoint_at, row_or, with_clusters, with_cluster, with_log, with_restart, with_restarts, with_store, with_round, unless_refused, replied, nobody, most_clusters, last_number, stays}
+use Rattle.refusal.specs.Answers.{unless_refused, replied}
+use Rattle.law.specs.Book.{Book, Cluster, Ticket, at, count, entry, number, checkpoint_at, row_or, with_clusters, with_cluster, with_log, with_restart, with_restarts, with_store, with_round, nobody, most_clusters, last_number, stays}
 
 -- told to the outside, a cluster that stays has place 0
 abbrev pub told : ℕ → ℕ
@@ -37,7 +38,7 @@ to_nobody = record { to = replicate most_clusters false }
 
 abbrev pub begun : List Cluster → ℕ → Restart
 begun cs f =
-    record { places = slice_set (replicate most_clusters stays) f (entry (get_or cs f nobody).row f); waiting = slice_set (replicate most_clusters to_nobody) f (to_others (length cs) f); settled = false }
+    record { places = slice_set (replicate most_clusters stays) f (entry (slice_index_or cs f nobody).row f); waiting = slice_set (replicate most_clusters to_nobody) f (to_others (length cs) f); settled = false }
 
 -- rounds at a fault: every open round is dropped
 abbrev pub drop_rounds : List Cluster → List Cluster
@@ -68,7 +69,7 @@ fault_tells b f = replied (fault_refusal b f) (number b f, ticket (faulted b f))
 -- j's entry for i at j's present place: in its row, if it stays, else in the checkpoint there
 abbrev pub entry_at : List Cluster → Restart → ℕ → ℕ → ℕ
 entry_at cs r i j =
-    let c = get_or cs j nobody in
+    let c = slice_index_or cs j nobody in
     cond (place r j == stays) (entry c.row i) (entry (row_or [] (checkpoint_at c.kept (place r j))) i)
 
 -- the latest of these checkpoints below a place whose entry for i is below s, or else the one found before
@@ -79,14 +80,14 @@ latest i s p (c ∷ cs) found =
 
 abbrev pub called_to : List Cluster → Restart → ℕ → ℕ → Option ℕ
 called_to cs r i j =
-    cond (nat_le (place r i) (entry_at cs r i j)) (latest i (place r i) (place r j) (get_or cs j nobody).kept None) None
+    cond (nat_le (place r i) (entry_at cs r i j)) (latest i (place r i) (place r j) (slice_index_or cs j nobody).kept None) None
 
 abbrev pub waits : Restart → ℕ → ℕ → Bool
-waits r i j = slice_index_or (get_or r.waiting i to_nobody).to j false
+waits r i j = slice_index_or (slice_index_or r.waiting i to_nobody).to j false
 
 -- the alert from i to j waits no longer
 abbrev pub taken : Restart → ℕ → ℕ → List Alerts
-taken r i j = slice_set r.waiting i (record { to = slice_set (get_or r.waiting i to_nobody).to j false })
+taken r i j = slice_set r.waiting i (record { to = slice_set (slice_index_or r.waiting i to_nobody).to j false })
 
 -- a cluster called back alerts every other
 abbrev pub carried : ℕ → Restart → ℕ → ℕ → Option ℕ → Restart
@@ -200,7 +201,7 @@ resume_refusal b t = resume_at b t b.restart
 -- the cluster at its place: later checkpoints gone, the row as it was there
 abbrev pub back : ℕ → Cluster → Cluster
 back p c =
-    record { row = cond (p == stays) c.row (row_or c.row (checkpoint_at c.kept p)); kept = filter (λ k. leb k.number p) c.kept; round = c.round }
+    record { row = cond (p == stays) c.row (row_or c.row (checkpoint_at c.kept p)); kept = filter (λ k. nat_le k.number p) c.kept; round = c.round }
 
 -- the store without the checkpoints of cluster i that pass a test
 abbrev pub discard : ℕ → (ℕ → Bool) → List Checkpoint → Model → Model
@@ -216,7 +217,7 @@ prune change gone (suc k) b =
 
 -- the first k clusters gone back to their places
 abbrev pub back_to : List ℕ → ℕ → Book → Book
-back_to ps = prune (λ j. back (slice_index ps j)) (λ j n. ltb (slice_index ps j) n)
+back_to ps = prune (λ j. back (slice_index ps j)) (λ j n. nat_lt (slice_index ps j) n)
 
 abbrev pub undone : List ℕ → Logged → Bool
 undone ps m = nat_le (slice_index ps m.message.from) m.message.number

@@ -13,7 +13,8 @@ use Rattle.law.specs.declared.Logged.{Logged}
 use Rattle.law.specs.declared.Round.{Round}
 use Rattle.law.specs.declared.Noted.{Noted}
 use Rattle.law.specs.declared.Noted.TheVariants.{Missing, Committed}
-use Rattle.law.specs.Book.{Book, Cluster, at, count, entry, number, logged, or_zero, with_cluster, with_store, with_round, unless_refused, replied}
+use Rattle.refusal.specs.Answers.{unless_refused, replied}
+use Rattle.law.specs.Book.{Book, Cluster, at, count, entry, number, logged, or_zero, with_cluster, with_store, with_round}
 use Rattle.law.specs.Messages.{round_refusal, new_round, deliver}
 
 -- a round is open: nothing stands in the way; else it has to open

@@ -8,7 +8,8 @@ use Rattle.refusal.specs.declared.Refusal.TheVariants as refuses
 use Rattle.refusal.specs.declared.StoreRefusal.{StoreRefusal}
 use Rattle.refusal.specs.declared.StoreRefusal.TheVariants as store_refuses
 use Rattle.store.specs.Table.{lookup}
-use Rattle.law.specs.Book.{Book, at, count, checkpoint_at, replied}
+use Rattle.refusal.specs.Answers.{replied}
+use Rattle.law.specs.Book.{Book, at, count, checkpoint_at}
 use Rattle.law.specs.Rounds.{from_store}
 
 abbrev pub held_by : Option (List ℕ) → Option Refusal

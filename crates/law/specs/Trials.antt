@@ -4,11 +4,12 @@
 --   collect_refusal  why collect refuses, if it does; collect_tells, collect_book what it tells and leaves
 --   lowest           the smallest place of each cluster over the faults of the first so many clusters
 --   Collected        the bounds, and how many checkpoints and messages are gone
-use Rattle.std.specs.Prelude.{ℕ, zero, suc, ◌+◌, ◌-◌, min, Bool, true, cond, ltb, leb, List, [], ◌∷◌, length, take, replicate, is_some, Some, None, filter, Option, Result, nat_le, nat_lt, slice_index}
+use Rattle.std.specs.Prelude.{ℕ, zero, suc, ◌+◌, ◌-◌, min, Bool, true, cond, nat_lt, nat_le, List, [], ◌∷◌, length, take, replicate, is_some, Some, None, filter, Option, Result, slice_index}
 use Rattle.refusal.specs.declared.Refusal.{Refusal}
 use Rattle.refusal.specs.declared.Refusal.TheVariants as refuses
 use Rattle.law.specs.declared.Logged.{Logged}
-use Rattle.law.specs.Book.{Book, Cluster, count, with_log, unless_refused, replied, most_clusters, stays}
+use Rattle.refusal.specs.Answers.{unless_refused, replied}
+use Rattle.law.specs.Book.{Book, Cluster, count, with_log, most_clusters, stays}
 use Rattle.law.specs.Restarts.{begun, drained, tells_places, prune}
 
 -- the places to which a fault of f would lead
@@ -39,11 +40,11 @@ collect_refusal b = cond (is_some b.restart) (Some refuses.RestartOpen) None
 
 -- a cluster without its checkpoints below a bound
 abbrev pub from : ℕ → Cluster → Cluster
-from bound c = record { row = c.row; kept = filter (λ k. leb bound k.number) c.kept; round = c.round }
+from bound c = record { row = c.row; kept = filter (λ k. nat_le bound k.number) c.kept; round = c.round }
 
 -- the first k clusters without their checkpoints below the bounds
 abbrev pub from_bounds : List ℕ → ℕ → Book → Book
-from_bounds bs = prune (λ j. from (slice_index bs j)) (λ j n. ltb n (slice_index bs j))
+from_bounds bs = prune (λ j. from (slice_index bs j)) (λ j n. nat_lt n (slice_index bs j))
 
 abbrev pub received_from : ℕ → Option ℕ → Bool
 received_from bound None = true

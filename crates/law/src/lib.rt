@@ -9,7 +9,7 @@ ghost use Rattle.law.specs.Slips.{Slips};
 use ordered::Keyed;
 
 // A message as it was sent.
-#[derive(Clone, Copy)]
+#[derive(Clone, Copy, PartialEq, Eq, Debug)]
 pub struct Message {
     pub id: u32,
     pub from: u8,
@@ -20,21 +20,21 @@ pub struct Message {
 }
 
 // A message in the log, with its receipt number once it is delivered.
-#[derive(Clone, Copy)]
+#[derive(Clone, Copy, PartialEq, Eq, Debug)]
 pub struct Logged {
     pub message: Message,
     pub receipt: Option<u32>,
 }
 
 // A kept checkpoint, with the row from before the message that forced it.
-#[derive(Clone, Copy)]
+#[derive(Clone, Copy, PartialEq, Eq, Debug)]
 pub struct Checkpoint {
     pub number: u32,
     pub row: [u32; 8],
 }
 
 // An open round: who holds it, what each node has answered, and the message that waits for its end.
-#[derive(Clone, Copy)]
+#[derive(Clone, Copy, PartialEq, Eq, Debug)]
 pub struct Round {
     pub initiator: u8,
     pub answers: [Option<u64>; 32],
@@ -42,13 +42,13 @@ pub struct Round {
 }
 
 // The clusters to which an alert of one cluster still travels.
-#[derive(Clone, Copy)]
+#[derive(Clone, Copy, PartialEq, Eq, Debug)]
 pub struct Alerts {
     pub to: [bool; 8],
 }
 
 // An open restart: the place of each cluster and the alerts that wait. Settled once none waits and finish was called.
-#[derive(Clone, Copy)]
+#[derive(Clone, Copy, PartialEq, Eq, Debug)]
 pub struct Restart {
     pub places: [u32; 8],
     pub waiting: [Alerts; 8],
@@ -56,28 +56,28 @@ pub struct Restart {
 }
 
 // What an accepted answer tells: how many nodes are missing, or the checkpoint and the message delivered with it.
-#[derive(Clone, Copy)]
+#[derive(Clone, Copy, PartialEq, Eq, Debug)]
 pub enum Noted {
     Missing(u8),
     Committed(u32, Option<u32>),
 }
 
 // What an accepted send tells: the message's id, and its sender's number.
-#[derive(Clone, Copy)]
+#[derive(Clone, Copy, PartialEq, Eq, Debug)]
 pub struct Sent {
     pub id: u32,
     pub number: u32,
 }
 
 // What an accepted arrival tells: the receipt number, or the number of the checkpoint that has to come first.
-#[derive(Clone, Copy)]
+#[derive(Clone, Copy, PartialEq, Eq, Debug)]
 pub enum Arrived {
     Delivered(u32),
     Forced(u32),
 }
 
 // What a carried alert tells: whether the cluster was called back by it, and its place now.
-#[derive(Clone, Copy)]
+#[derive(Clone, Copy, PartialEq, Eq, Debug)]
 pub struct Carried {
     pub moved: bool,
     pub place: u32,
@@ -85,6 +85,8 @@ pub struct Carried {
 
 // Kept checkpoints are found by their number.
 impl Keyed for Checkpoint {
+    type Key = u32;
+
     ghost key = { λ c. c.number };
 
     fn key(&self) -> u32 {
@@ -94,6 +96,8 @@ impl Keyed for Checkpoint {
 
 // Messages are found by their id.
 impl Keyed for Logged {
+    type Key = u32;
+
     ghost key = { λ m. m.message.id };
 
     fn key(&self) -> u32 {

@@ -11,14 +11,11 @@ pub trait ForcingRule {
     // The letter by which a run list names the rule.
     const LETTER: char;
 
-    // The letter, as clauses can speak of it.
-    ghost named: { ℕ };
+    // The same letter, for clauses.
+    ghost LETTER: { ℕ };
 
     // The answer of the rule.
     ghost says: { Rule };
-
-    fn own_letter() -> char
-        ensures { result ≡ named };
 
     fn forces(&self, entry: u32, number: u32, kept: usize) -> bool
         ensures { result ≡ says entry number kept };
@@ -28,25 +25,21 @@ pub trait ForcingRule {
 }
 
 // Forces only before news. The fewest checkpoints that keep the promise.
-#[derive(Clone, Copy)]
+#[derive(Clone, Copy, PartialEq, Eq, Debug)]
 pub struct OnNews;
 
 // Forces before every delivery. More checkpoints, and shorter ways back.
-#[derive(Clone, Copy)]
+#[derive(Clone, Copy, PartialEq, Eq, Debug)]
 pub struct Always;
 
 impl ForcingRule for OnNews {
     const LETTER: char = 'N';
 
-    ghost named = { 78 };
+    ghost LETTER = { 78 };
 
     ghost says = { on_news };
 
     ghost news = { Prim.search rules };
-
-    fn own_letter() -> char {
-        Self::LETTER
-    }
 
     fn forces(&self, entry: u32, number: u32, _kept: usize) -> bool {
         entry < number
@@ -56,15 +49,11 @@ impl ForcingRule for OnNews {
 impl ForcingRule for Always {
     const LETTER: char = 'E';
 
-    ghost named = { 69 };
+    ghost LETTER = { 69 };
 
     ghost says = { at_every };
 
     ghost news = { Prim.search rules };
-
-    fn own_letter() -> char {
-        Self::LETTER
-    }
 
     fn forces(&self, _entry: u32, _number: u32, _kept: usize) -> bool {
         true
