@@ -2,6 +2,7 @@
 -- read, so what is still to be moved stands as it stood.
 use Rattle.std.proofs.Common.{◌≡◌, ℕ, suc, ◌+◌, ◌-◌, ◌<◌, ◌≤◌, List, [], ◌∷◌, ◌++◌, length, get_or, take, drop, set, sym, refl, ap, ◌∙◌, subst, arith}
 use lib.Seq.{paste}
+use Rattle.std.specs.List.{copy_within}
 use Rattle.std.proofs.lemmas.List.{append_assoc, append-nil, length-take-le, length-drop, drop-drop, drop_more, take_more, get_or_at, set_at, take_all, drop_all}
 use Rattle.std.proofs.lemmas.List.Edits.{take-paste, drop-paste, length-paste}
 use Rattle.records.specs.declared.Held.{Held}
@@ -51,7 +52,7 @@ pub moved_none : (b : List ℕ) (hs : List Held) → Laid 0 hs (length b) → Mo
 moved_none b hs l =
     record { done = refl; size = refl; front = refl; long = refl; reach = 0; low = omega arith; laid = l; rest = refl }
 
-module _ (b : List ℕ) (hs : List Held) (i : ℕ) (bytes : List ℕ) (held : List Held) (end : ℕ) (m : Moved b hs i bytes held end) (within : i < length hs) (d : Held) where
+module _ {b : List ℕ} {hs : List Held} {i : ℕ} {bytes : List ℕ} {held : List Held} {end : ℕ} (m : Moved b hs i bytes held end) (within : i < length hs) (d : Held) where
   front_length : length (relaid 0 (take i hs)) ≡ i
   front_length = length-relaid 0 (take i hs) ∙ length-take-le i hs (omega arith)
 
@@ -107,14 +108,16 @@ module _ (b : List ℕ) (hs : List Held) (i : ℕ) (bytes : List ℕ) (held : Li
   bounds =
       subst (λ (h : Held). (end ≤ h.at) × (h.at + size_of h.count ≤ length bytes)) (sym same_record) (move_low, move_there)
 
-  pub moved-next : (after : List ℕ) → after ≡ paste bytes end (drop (get_or held i d).at bytes) (size_of (get_or held i d).count) → Moved b hs (i + 1) after (set held i (moved (get_or held i d) end)) (end + size_of (get_or held i d).count)
+  pub moved-next : (after : List ℕ) → after ≡ copy_within bytes (get_or held i d).at ((get_or held i d).at + size_of (get_or held i d).count) end → Moved b hs (i + 1) after (set held i (moved (get_or held i d) end)) (end + size_of (get_or held i d).count)
   moved-next after e =
-      subst (λ (bs : List ℕ). Moved b hs (i + 1) bs (set held i (moved (get_or held i d) end)) (end + size_of (get_or held i d).count)) (sym e)
+      let k : (get_or held i d).at + size_of (get_or held i d).count - (get_or held i d).at ≡ size_of (get_or held i d).count = omega arith in
+      subst (λ (bs : List ℕ). Moved b hs (i + 1) bs (set held i (moved (get_or held i d) end)) (end + size_of (get_or held i d).count))
+      (sym (e ∙ ap (paste bytes end (drop (get_or held i d).at bytes)) k))
       (subst (λ (h : Held). Moved b hs (i + 1) (paste bytes end (drop h.at bytes) (size_of h.count)) (set held i (moved h end)) (end + size_of h.count))
       (sym same_record) moved_more)
 
-pub moved_all : (b : List ℕ) (hs : List Held) (i : ℕ) (bytes : List ℕ) (held : List Held) (end : ℕ) → Moved b hs i bytes held end → length hs ≤ i → (end ≡ total hs) × (take end bytes ≡ parts b hs) × (held ≡ relaid 0 hs)
-moved_all b hs i bytes held end m past =
+pub moved_all : {b : List ℕ} {hs : List Held} {i : ℕ} {bytes : List ℕ} {held : List Held} {end : ℕ} → Moved b hs i bytes held end → length hs ≤ i → (end ≡ total hs) × (take end bytes ≡ parts b hs) × (held ≡ relaid 0 hs)
+moved_all {b} {hs} {i} {bytes} {held} {end} m past =
     let all = take_all i hs past in (
       m.size ∙ ap total all,
       m.front ∙ ap (parts b) all,

@@ -1,6 +1,8 @@
 -- Words as bytes and back: eight bytes at a time, each the next digit of a number to the base 256.
-use Rattle.std.proofs.Common.{◌≡◌, ℕ, zero, suc, ◌+◌, ◌*◌, ◌^◌, ◌<◌, List, [], ◌∷◌, ◌++◌, length, get_or, drop, refl, ap, ◌∙◌, arith}
-use Rattle.std.proofs.lemmas.List.{append-nil, drop-drop}
+use Rattle.std.proofs.Common.{◌≡◌, ℕ, zero, suc, ◌+◌, ◌*◌, ◌^◌, ◌<◌, ◌≤◌, List, [], ◌∷◌, ◌++◌, length, get_or, take, drop, w64, sym, refl, ap, ◌∙◌, arith}
+use Rattle.std.proofs.lemmas.List.{append-nil, drop-drop, get_or-take}
+use Rattle.std.specs.Int.{from_be_bytes}
+use Rattle.std.specs.Simd.{first_chunks}
 use Rattle.records.specs.Encode.{be8, words_bytes, word, words_in}
 
 pub words_bytes_push : (ws : List ℕ) (w : ℕ) → words_bytes (ws ++ (w ∷ [])) ≡ words_bytes ws ++ be8 w
@@ -31,3 +33,30 @@ get_or-words_in (suc k) bs zero within = refl
 get_or-words_in (suc k) bs (suc i) within =
     let next : 8 + 8 * i ≡ 8 * suc i = omega arith in
     get_or-words_in k (drop 8 bs) i (omega arith) ∙ ap word (drop-drop (8 * i) 8 bs ∙ ap (λ n. drop n bs) next)
+
+first_chunks_at : (k : ℕ) (bs : List ℕ) (i : ℕ) (d : List ℕ) → i < k → get_or (first_chunks 8 k bs) i d ≡ take 8 (drop (8 * i) bs)
+first_chunks_at zero bs i d within = absurd (omega arith)
+first_chunks_at (suc k) bs zero d within = refl
+first_chunks_at (suc k) bs (suc i) d within =
+    let next : 8 + 8 * i ≡ 8 * suc i = omega arith in
+    first_chunks_at k (drop 8 bs) i d (omega arith) ∙ ap (take 8) (drop-drop (8 * i) 8 bs ∙ ap (λ n. drop n bs) next)
+
+-- the first eight bytes as a number
+word_front : (bs : List ℕ) → from_be_bytes w64 (take 8 bs) ≡ word bs
+word_front bs =
+    let e0 = get_or-take 8 bs 0 0 (omega arith) in
+    let e1 = get_or-take 8 bs 1 0 (omega arith) in
+    let e2 = get_or-take 8 bs 2 0 (omega arith) in
+    let e3 = get_or-take 8 bs 3 0 (omega arith) in
+    let e4 = get_or-take 8 bs 4 0 (omega arith) in
+    let e5 = get_or-take 8 bs 5 0 (omega arith) in
+    let e6 = get_or-take 8 bs 6 0 (omega arith) in
+    let e7 = get_or-take 8 bs 7 0 (omega arith) in
+    omega arith
+
+-- the word that a chunk of eight bytes gives
+pub word_of_chunk : (count k : ℕ) (bs : List ℕ) (chunks : List (List ℕ)) (i : ℕ) (d : List ℕ) → chunks ≡ first_chunks 8 k bs → count ≤ k → i < count → from_be_bytes w64 (get_or (take count chunks) i d) ≡ get_or (words_in count bs) i 0
+word_of_chunk count k bs chunks i d e few within =
+    ap (from_be_bytes w64)
+    (get_or-take count chunks i d within ∙ ap (λ (xs : List (List ℕ)). get_or xs i d) e ∙ first_chunks_at k bs i d (omega arith))
+    ∙ word_front (drop (8 * i) bs) ∙ sym (get_or-words_in count bs i within)

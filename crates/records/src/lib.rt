@@ -2,18 +2,17 @@
 // journal is full of records that no longer count.
 #![tactic(auto)]
 
-ghost use Rattle.std.specs.Prelude.{◌≡◌, ℕ, ◌+◌, ◌*◌, ◌≤◌, List, ◌++◌, length, take, drop};
-ghost use Rattle.std.proofs.Math.Seq.{paste};
+ghost use Rattle.std.specs.Prelude.{◌≡◌, ℕ, ◌+◌, ◌*◌, ◌≤◌, List, ◌++◌, length, take};
 ghost use Rattle.store.specs.Table.{over};
 ghost use Rattle.records.specs.Layout.{size_of, parts, relaid, total, Laid};
-ghost use Rattle.records.specs.Encode.{keep_bytes, drop_bytes, words_bytes, word, words_in};
+ghost use Rattle.records.specs.Encode.{keep_bytes, drop_bytes, words_bytes, words_in};
 
 mod order;
 
 pub use order::{first_of, insert_ordered, reindex};
 
 // Where the record of a row that is kept begins, and how many words it has.
-#[derive(Clone, Copy)]
+#[derive(Clone, Copy, PartialEq, Eq, Debug)]
 pub struct Held {
     pub cluster: u8,
     pub number: u32,
@@ -68,41 +67,15 @@ pub fn write_drop(bytes: &mut [u8], at: usize, cluster: u8, number: u32) -> usiz
     put(bytes, at, &number.to_be_bytes())
 }
 
-fn word_at(bytes: &[u8], at: usize) -> u64
-    requires { at + 8 ≤ length bytes.now }
-    ensures { result ≡ word (drop at bytes.now) }
-{
-    u64::from_be_bytes([
-        bytes[at],
-        bytes[at + 1],
-        bytes[at + 2],
-        bytes[at + 3],
-        bytes[at + 4],
-        bytes[at + 5],
-        bytes[at + 6],
-        bytes[at + 7],
-    ])
-}
-
 // Reads so many words from the front of the bytes to the front of a buffer.
 pub fn read_words(bytes: &[u8], count: usize, buffer: &mut [u64])
     requires there { 8 * count ≤ length bytes.now }
     requires room { count ≤ length buffer.old }
     ensures { buffer.new ≡ over (words_in count bytes.now) buffer.old }
 {
-    for i in 0..count {
-        buffer[i] = word_at(bytes, 8 * i);
-    }
-}
-
-// Moves bytes towards the front, from first to last, so that none is overwritten before it was read.
-fn shift(bytes: &mut [u8], from: usize, to: usize, len: usize)
-    requires front { to ≤ from }
-    requires there { from + len ≤ length bytes.old }
-    ensures { bytes.new ≡ paste bytes.old to (drop from bytes.old) len }
-{
-    for k in 0..len {
-        bytes[to + k] = bytes[from + k];
+    let (words, _) = bytes.as_chunks::<8>();
+    for (i, word) in words[..count].iter().enumerate() {
+        buffer[i] = u64::from_be_bytes(*word);
     }
 }
 
@@ -114,11 +87,10 @@ pub fn compact(bytes: &mut [u8], held: &mut [Held]) -> usize
     ensures held { held.new ≡ relaid 0 held.old }
 {
     let mut end = 0;
-    for i in 0..held.len() {
-        let record = held[i];
+    for record in held.iter_mut() {
         let size = 7 + 8 * record.count;
-        shift(bytes, record.at, end, size);
-        held[i] = Held { at: end, ..record };
+        bytes.copy_within(record.at..record.at + size, end);
+        record.at = end;
         end += size;
     }
     end

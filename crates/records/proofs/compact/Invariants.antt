@@ -2,5 +2,5 @@
 use Rattle.records.proofs.Compacting.{Moved}
 use Rattle.records.proofs.compact.Given as goal
 
-abbrev pub invariant-loop-i : goal.invariant-loop-i
-invariant-loop-i l = Moved l.initial.bytes l.initial.held l.i l.bytes l.held l.end
+abbrev pub invariant-loop-record : goal.invariant-loop-record
+invariant-loop-record l = Moved l.initial.bytes l.initial.held l.record-index l.bytes l.held l.end
