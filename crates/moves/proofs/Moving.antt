@@ -1,6 +1,6 @@
 -- Rows taken from the front one by one, or put behind one another in their order, pass through every front and
 -- every rest of a rising table.
-use Rattle.std.proofs.Common.{◌≡◌, ℕ, zero, suc, ◌+◌, ◌<◌, ◌≤◌, Bool, true, false, cond, leb, List, [], ◌∷◌, length, get_or, take, Some, None, Ok, Err, Option, unwrap_or, sym, ap, ◌∙◌, subst, add-one, arith}
+use Rattle.std.proofs.Common.{◌≡◌, ℕ, zero, suc, ◌+◌, ◌<◌, ◌≤◌, Bool, true, false, cond, leb, List, [], ◌∷◌, length, get_or, take, Some, None, Ok, Err, Option, unwrap_or, sym, refl, ap, ◌∙◌, subst, add-one, arith}
 use Rattle.std.proofs.lemmas.Bool.{leb-true, le-leb, cond-true}
 use Rattle.std.proofs.lemmas.List.{take_at, length-take-le}
 use Rattle.std.specs.Option.{ok_or}
@@ -83,3 +83,8 @@ module _ (from : Model) (formed : Formed from) (at : ℕ) (within : at < length 
       keep_allowed to key.cluster key.number ws (keep_free to key.cluster key.number ws may)
       ∙ ap (with_table to) (ap (λ (r : TableRow). insert r to.table) new ∙ ap (insert (get_or rows at any)) front
       ∙ insert_front rows at any formed.rising within ∙ ap (λ k. take k rows) (sym (add-one at)))
+
+-- a call that told something was not refused
+pub not_refused : {A : Type 0} (why : Option StoreRefusal) (told x : A) → Ok told ≡ replied why x → why ≡ None
+not_refused None told x e = refl
+not_refused (Some why) told x e = let z : ◌≡◌ {A = ℕ} 0 1 = cc in absurd (omega arith)

@@ -1,29 +1,14 @@
-// What can be done with any store through its own calls: see whether it holds a row, empty it, fill it
+// What can be done with any store through its own calls: empty it, fill it
 // from another, and keep within a limit that is not its own.
 #![tactic(auto)]
 
-ghost use Rattle.std.specs.Prelude.{◌≡◌, ◌+◌, ◌<◌, ◌≤◌, [], length, take, drop, is_some};
+ghost use Rattle.std.specs.Prelude.{◌≡◌, ◌+◌, ◌<◌, ◌≤◌, [], length, take, drop};
 ghost use Rattle.refusal.specs.Answers.{replied};
-ghost use Rattle.store.specs.Table.{lookup, with_table, keep_refusal, keep_model, drop_refusal, drop_model};
+ghost use Rattle.store.specs.Table.{limited, with_table, keep_refusal, keep_model, drop_refusal, drop_model};
 ghost use Rattle.store.specs.Formed.{Formed};
-ghost use Rattle.moves.specs.Limit.{limited};
 
 use refusal::StoreRefusal;
-use store::{MOST_WORDS, RowKey, Store};
-
-// How many rows a store may hold, and the side that a refusal names when it is full.
-#[derive(Clone, Copy, PartialEq, Eq, Debug)]
-pub struct Limit {
-    pub capacity: usize,
-    pub side: u8,
-}
-
-pub fn holds<S: Store>(store: &S, key: RowKey) -> bool
-    ensures { result ≡ is_some (lookup (S.Store.model store.now).table key.cluster key.number) }
-{
-    let mut buffer = [0; MOST_WORDS];
-    !matches!(store.read(key, &mut buffer), Err(StoreRefusal::NotHeld))
-}
+use store::{Limit, MOST_WORDS, RowKey, Store};
 
 // Keeps a row as a store under this limit would.
 pub fn keep_within<S: Store>(
@@ -37,16 +22,8 @@ pub fn keep_within<S: Store>(
     ensures after { S.Store.model store.new ≡ with_table (S.Store.model store.old) (keep_model (limited (S.Store.model store.old).table limit.capacity limit.side) key.cluster key.number words.now).table }
     ensures short { length (S.Store.model store.old).table ≤ limit.capacity → length (S.Store.model store.new).table ≤ limit.capacity }
 {
-    if store.count() < limit.capacity {
-        return store.keep(key, words);
-    }
-    if words.is_empty() || words.len() > MOST_WORDS {
-        return Err(StoreRefusal::WordCount);
-    }
-    if holds(store, key) {
-        return Err(StoreRefusal::Held);
-    }
-    Err(StoreRefusal::Full(limit.side))
+    store.check_keep(limit, key, words)?;
+    store.keep(key, words)
 }
 
 // Drops a row; and whoever calls it learns that there are no more rows than before.

@@ -9,8 +9,7 @@
 use Rattle.std.specs.Prelude.{◌≡◌, ℕ, min, cond, List, [], Some, None, Ok, Err, Option, Result, ◌==◌, nat_le}
 use Rattle.refusal.specs.declared.StoreRefusal.{StoreRefusal}
 use Rattle.refusal.specs.declared.StoreRefusal.TheVariants.{NoSide}
-use Rattle.store.specs.Table.{TableRow, Model}
-use Rattle.moves.specs.Limit.{limited}
+use Rattle.store.specs.Table.{TableRow, Model, limited}
 use Rattle.pair.specs.declared.side.Side.{Side}
 use Rattle.pair.specs.declared.side.Side.TheVariants.{First, Second}
 

@@ -3,4 +3,4 @@ use Rattle.store.specs.Table.{TableRow}
 use Rattle.slots.specs.declared.slot.Slot.{Slot}
 
 abbrev pub row_of : Slot → TableRow
-row_of slot = record { cluster = slot.cluster; number = slot.number; words = slot.words.items }
+row_of slot = record { cluster = slot.key.cluster; number = slot.key.number; words = slot.words.items }

@@ -3,6 +3,7 @@
 --   TableRow      one row: a cluster, a number, and the words kept under them
 --   Model         the rows in order of cluster, then number; the capacity; the side that a full refusal names
 --   lookup        the words held under a cluster and a number
+--   limited       rows as a store of another capacity would hold them
 --   keep_refusal  why keep refuses, if it does; keep_model what the store means after it
 --   drop_refusal  why drop refuses, if it does; drop_model what the store means after it
 --   read_refusal  why read refuses, if it does; read_count, read_buffer what it tells and leaves in the buffer
@@ -55,6 +56,10 @@ insert new (row ∷ rows) = cond (before new.cluster new.number row) (new ∷ ro
 abbrev pub remove : List TableRow → ℕ → ℕ → List TableRow
 remove [] c n = []
 remove (row ∷ rows) c n = cond (under c n row) rows (row ∷ remove rows c n)
+
+-- rows under this capacity, whose full refusal names this side
+abbrev pub limited : List TableRow → ℕ → ℕ → Model
+limited rows capacity full = record { table = rows; capacity = capacity; full = full }
 
 abbrev pub with_table : Model → List TableRow → Model
 with_table m rows = record { table = rows; capacity = m.capacity; full = m.full }

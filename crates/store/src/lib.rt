@@ -2,9 +2,9 @@
 // that whatever is built on it is proved once for all stores. A store's maker implements `Store`.
 #![tactic(auto)]
 
-ghost use Rattle.std.specs.Prelude.{◌≡◌, ℕ, length};
+ghost use Rattle.std.specs.Prelude.{◌≡◌, ℕ, length, is_some};
 ghost use Rattle.refusal.specs.Answers.{replied};
-ghost use Rattle.store.specs.Table.{Model, keep_refusal, keep_model, drop_refusal, drop_model, read_refusal, read_count, read_buffer, position_at};
+ghost use Rattle.store.specs.Table.{Model, lookup, limited, keep_refusal, keep_model, drop_refusal, drop_model, read_refusal, read_count, read_buffer, position_at};
 ghost use Rattle.store.specs.Formed.{Formed};
 ghost use Rattle.store.specs.Sides.{lose_refusal, lose_out, rebuild_refusal, rebuild_out};
 
@@ -26,6 +26,13 @@ pub const MOST_WORDS: usize = 32;
 pub struct RowKey {
     pub cluster: u8,
     pub number: u32,
+}
+
+// How many rows may be kept, and the side that a refusal names when there are as many; 0 where there are no sides.
+#[derive(Clone, Copy, PartialEq, Eq, Debug)]
+pub struct Limit {
+    pub capacity: usize,
+    pub side: u8,
 }
 
 pub trait Store {
@@ -58,6 +65,29 @@ pub trait Store {
     // What the row at a position is kept under; the first row is at 0.
     fn position(&self, at: usize) -> Result<RowKey, StoreRefusal>
         ensures { result ≡ position_at (model self.now) at };
+
+    fn holds(&self, key: RowKey) -> bool
+        ensures { result ≡ is_some (lookup (model self.now).table key.cluster key.number) }
+    {
+        let mut buffer = [0; MOST_WORDS];
+        !matches!(self.read(key, &mut buffer), Err(StoreRefusal::NotHeld))
+    }
+
+    // Refuses what a store with these rows under this limit refuses to keep.
+    fn check_keep(&self, limit: Limit, key: RowKey, words: &[u64]) -> Result<(), StoreRefusal>
+        ensures { result ≡ replied (keep_refusal (limited (model self.now).table limit.capacity limit.side) key.cluster key.number words.now) tt }
+    {
+        if words.is_empty() || words.len() > MOST_WORDS {
+            return Err(StoreRefusal::WordCount);
+        }
+        if self.holds(key) {
+            return Err(StoreRefusal::Held);
+        }
+        if self.count() >= limit.capacity {
+            return Err(StoreRefusal::Full(limit.side));
+        }
+        Ok(())
+    }
 }
 
 // A store that can lose one of its sides and rebuild it. Its table is changed by neither.

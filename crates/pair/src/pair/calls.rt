@@ -1,14 +1,14 @@
 // A pair's calls: each reaches the sides that stand.
 ghost use Rattle.std.specs.Prelude.{◌≡◌, min, [], Decides};
 ghost use Rattle.store.specs.Agree.{Agree};
-ghost use Rattle.moves.specs.Limit.{limited};
+ghost use Rattle.store.specs.Table.{limited};
 ghost use Rattle.pair.specs.Sides.{smaller, number_of, pair_model, out_number};
 
 use super::Pair;
 use crate::Side;
-use moves::{Limit, drop_row, empty, fill, keep_within};
+use moves::{drop_row, empty, fill, keep_within};
 use refusal::StoreRefusal;
-use store::{RowKey, SidedStore, Store, agree};
+use store::{Limit, RowKey, SidedStore, Store, agree};
 
 impl<A: Store, B: Store> Pair<A, B> {
     // Whatever the two stores held is dropped: a pair begins empty.
