@@ -23,13 +23,13 @@ parts bytes (h ∷ hs) = part bytes h ++ parts bytes hs
 
 -- what a record's bytes hold
 abbrev pub row_from : Held → List ℕ → TableRow
-row_from h bytes = record { cluster = h.cluster; number = h.number; words = words_in h.count (drop 7 bytes) }
+row_from h bytes = record { cluster = h.key.cluster; number = h.key.number; words = words_in h.count (drop 7 bytes) }
 
 abbrev pub row_in : List ℕ → Held → TableRow
 row_in bytes h = row_from h (part bytes h)
 
 abbrev pub moved : Held → ℕ → Held
-moved h at = record { cluster = h.cluster; number = h.number; at = at; count = h.count }
+moved h at = record { key = h.key; at = at; count = h.count }
 
 abbrev pub relaid : ℕ → List Held → List Held
 relaid from [] = []

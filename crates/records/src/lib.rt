@@ -7,6 +7,8 @@ ghost use Rattle.store.specs.Table.{over};
 ghost use Rattle.records.specs.Layout.{size_of, parts, relaid, total, Laid};
 ghost use Rattle.records.specs.Encode.{keep_bytes, drop_bytes, words_bytes, words_in};
 
+use store::RowKey;
+
 mod order;
 
 pub use order::{first_of, insert_ordered, reindex};
@@ -14,8 +16,7 @@ pub use order::{first_of, insert_ordered, reindex};
 // Where the record of a row that is kept begins, and how many words it has.
 #[derive(Clone, Copy, PartialEq, Eq, Debug)]
 pub struct Held {
-    pub cluster: u8,
-    pub number: u32,
+    pub key: RowKey,
     pub at: usize,
     pub count: usize,
 }
@@ -44,27 +45,27 @@ fn put_words(bytes: &mut [u8], at: usize, words: &[u64]) -> usize
 }
 
 // Writes the record of a row that is kept, and tells the place behind it.
-pub fn write_keep(bytes: &mut [u8], at: usize, cluster: u8, number: u32, words: &[u64]) -> usize
+pub fn write_keep(bytes: &mut [u8], at: usize, key: RowKey, words: &[u64]) -> usize
     requires fits { at + size_of (length words.now) ≤ length bytes.old }
     requires few { length words.now ≤ 32 }
     ensures end { result ≡ at + size_of (length words.now) }
-    ensures front { take result bytes.new ≡ take at bytes.old ++ keep_bytes (record { cluster = cluster; number = number; words = words.now }) }
+    ensures front { take result bytes.new ≡ take at bytes.old ++ keep_bytes (record { cluster = key.cluster; number = key.number; words = words.now }) }
     ensures reads { (rest : List ℕ) → words_in (length words.now) (words_bytes words.now ++ rest) ≡ words.now }
 {
-    let at = put(bytes, at, &[b'K', cluster]);
-    let at = put(bytes, at, &number.to_be_bytes());
+    let at = put(bytes, at, &[b'K', key.cluster]);
+    let at = put(bytes, at, &key.number.to_be_bytes());
     let at = put(bytes, at, &[words.len() as u8]);
     put_words(bytes, at, words)
 }
 
 // Writes the record of a row that is dropped, and tells the place behind it.
-pub fn write_drop(bytes: &mut [u8], at: usize, cluster: u8, number: u32) -> usize
+pub fn write_drop(bytes: &mut [u8], at: usize, key: RowKey) -> usize
     requires { at + 6 ≤ length bytes.old }
     ensures end { result ≡ at + 6 }
-    ensures front { take result bytes.new ≡ take at bytes.old ++ drop_bytes cluster number }
+    ensures front { take result bytes.new ≡ take at bytes.old ++ drop_bytes key.cluster key.number }
 {
-    let at = put(bytes, at, &[b'X', cluster]);
-    put(bytes, at, &number.to_be_bytes())
+    let at = put(bytes, at, &[b'X', key.cluster]);
+    put(bytes, at, &key.number.to_be_bytes())
 }
 
 // Reads so many words from the front of the bytes to the front of a buffer.

@@ -5,7 +5,7 @@ use Rattle.records.proofs.Compacting.{bounds, moved-next, moved_all}
 use Rattle.records.proofs.compact.Goals as goal
 
 abbrev none : Held
-none = record { cluster = 0; number = 0; at = 0; count = 0 }
+none = record { key = record { cluster = 0; number = 0 }; at = 0; count = 0 }
 
 pub overflow_mul-size : goal.overflow_mul-size
 overflow_mul-size c = omega (arith, (bounds c.loop-record.invariant c.loop-record-test.true none).1)

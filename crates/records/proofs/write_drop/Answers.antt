@@ -6,12 +6,12 @@ use Rattle.records.proofs.write_drop.Goals as goal
 
 pub returns : goal.returns
 returns c =
-    let number : c.to_be_bytes.result ≡ be4 c.args.number = c.to_be_bytes.ensures in
+    let number : c.to_be_bytes.result ≡ be4 c.args.key.number = c.to_be_bytes.ensures in
     let long = ap length number in
     record {
       end = omega arith;
       front = joined_front (take c.args.at c.args.bytes.now) (take c.put-at.result c.put-at.new.bytes) _
-          (88 ∷ c.args.cluster ∷ []) (be4 c.args.number)
+          (88 ∷ c.args.key.cluster ∷ []) (be4 c.args.key.number)
           (c.put.ensures.front ∙ ap (λ part. take c.put-at.result c.put-at.new.bytes ++ part) number)
           c.put-at.ensures.front;
     }
