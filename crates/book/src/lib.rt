@@ -12,10 +12,8 @@ mod changes;
 mod clusters;
 mod find;
 mod opens;
-mod short_list;
 
 pub use find::{checkpoint_at, logged_at};
-pub use short_list::ShortList;
 
 // A cluster keeps at most 16 checkpoints.
 pub const MOST_KEPT: usize = 16;
