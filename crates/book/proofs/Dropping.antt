@@ -1,5 +1,5 @@
 -- The rounds are dropped cluster by cluster, and a cluster without its round is as sound as it was.
-use Rattle.std.proofs.Common.{◌≡◌, ℕ, suc, true, List, [], ◌∷◌, ◌++◌, map, length, take, drop, None, refl, ap, ◌∙◌, ap₂, arith}
+use Rattle.std.proofs.Common.{◌≡◌, ℕ, suc, ◌≤◌, true, List, [], ◌∷◌, ◌++◌, map, length, take, drop, None, refl, ap, ◌∙◌, ap₂}
 use Rattle.std.proofs.lemmas.List.{take_all, drop_all, append-nil}
 use Rattle.store.proofs.Orders.{both_true}
 use Rattle.law.specs.Book.{Cluster as Group, with_round}
@@ -30,7 +30,7 @@ pub closed_shown : (cs : List Cluster) → map group (map closed cs) ≡ drop_ro
 closed_shown [] = refl
 closed_shown (c ∷ cs) = ap (λ (l : List Group). with_round (group c) None ∷ l) (closed_shown cs)
 
--- the first so many closed are all, past the last
-pub closed_all : (cs : List Cluster) (i : ℕ) → length cs ≡ i → map closed (take i cs) ++ drop i cs ≡ map closed cs
-closed_all cs i e =
-    ap₂ (λ (front behind : List Cluster). map closed front ++ behind) (take_all i cs (omega arith)) (drop_all i cs (omega arith)) ∙ append-nil (map closed cs)
+-- what was written over so many elements was written over all, past the last
+pub over_all : {X : Type 0} (f : X → X) (xs : List X) (i : ℕ) → length xs ≤ i → map f (take i xs) ++ drop i xs ≡ map f xs
+over_all {X} f xs i past =
+    ap₂ (λ (front behind : List X). map f front ++ behind) (take_all i xs past) (drop_all i xs past) ∙ append-nil (map f xs)

@@ -24,6 +24,10 @@ pub const MOST_MESSAGES: usize = 128;
 // Numbers of checkpoints, ids and restarts end here.
 pub const LAST_NUMBER: u32 = 1_000_000;
 
+// The place of a cluster that is not called back: above every number. As a number, each test and each minimum of places is one
+// comparison; as an Option each would be a match.
+pub const STAYS: u32 = 1_000_001;
+
 // One cluster: its row, its kept checkpoints, the oldest first, and its open round.
 #[derive(Drop)]
 pub struct Cluster {

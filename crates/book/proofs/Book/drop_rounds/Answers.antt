@@ -5,7 +5,7 @@ use Rattle.law.specs.Book.{with_clusters}
 use Rattle.book.specs.declared.Cluster.{Cluster}
 use Rattle.book.specs.Sound.{clusters_sound}
 use Rattle.book.specs.View.{view, group}
-use Rattle.book.proofs.Dropping.{closed, closed_shown, closed_all, all_closed_sound}
+use Rattle.book.proofs.Dropping.{closed, closed_shown, over_all, all_closed_sound}
 use Rattle.book.proofs.Soundness.{clusters_of_sound, sound_clusters}
 use Rattle.book.proofs.Book.drop_rounds.Goals as goal
 
@@ -23,7 +23,7 @@ returns c =
     let cs = c.args.self.now.clusters in
     let ok = cs.ok.0 in
     let now = c.loop-cluster.cluster-items in
-    let items = with_items_is cs now (omega arith) ∙ c.loop-cluster.invariant ∙ closed_all (vec_items cs) c.loop-cluster.cluster-index (omega arith) in
+    let items = with_items_is cs now (omega arith) ∙ c.loop-cluster.invariant ∙ over_all closed (vec_items cs) c.loop-cluster.cluster-index (omega arith) in
     record {
       after = λ m. ap (λ (l : List Cluster). with_clusters (view c.args.self.now m) (map group l)) items ∙ ap (with_clusters (view c.args.self.now m)) (closed_shown (vec_items cs));
       sound = sound_clusters c.args.self.now _ c.requires refl refl refl refl
