@@ -1,6 +1,6 @@
 -- The test of a book and what it stands for, both ways, part by part.
 use Rattle.std.proofs.Common.{◌≡◌, ℕ, zero, suc, ◌+◌, ◌<◌, ◌≤◌, Bool, true, List, [], ◌∷◌, ◌++◌, length, get_or, set, vec_items, vec_len, vec_capacity, sym, refl, ap, ◌∙◌, subst, inl, inr, arith}
-use Rattle.std.proofs.lemmas.List.{get_or-set_same, get_or-set_other}
+use Rattle.std.proofs.lemmas.List.{get_or-set_same, get_or-set_other, length-set}
 use Rattle.std.proofs.lemmas.Bool.{le-leb, leb-true, cases_eq}
 use Rattle.store.specs.Table.{both}
 use Rattle.store.proofs.Orders.{both_true}
@@ -72,16 +72,24 @@ sound_is b s =
     (both_is _ _ s.ascends (both_is _ _ s.below (both_is _ _ s.addressed
     (sound_each 0 (vec_items b.clusters) (λ i c h e. subst (λ (z : ℕ). ClusterSound z c) (omega arith) (s.clusters i c (omega arith) e)))))))))
 
+-- the clusters of a sound book
+pub clusters_of_sound : (b : Book) → sound b ≡ true → clusters_sound 0 (vec_items b.clusters) ≡ true
+clusters_of_sound b t =
+    let s = is_sound_lem b t in
+    let len = b.clusters.ok.0 in
+    sound_each 0 (vec_items b.clusters) (λ i c h e. subst (λ (z : ℕ). ClusterSound z c) (omega arith) (s.clusters i c (omega arith) e))
+
 -- the cluster at a position of a sound book is sound there
 pub cluster-sound : (b : Book) (i : ℕ) (c : Cluster) → sound b ≡ true → i < vec_len b.clusters → c ≡ get_or (vec_items b.clusters) i c → cluster_sound i c ≡ true
 cluster-sound b i c s within read = sound-cluster i c ((is_sound_lem b s).clusters i c within read)
 
--- a sound book with another cluster, sound too, at one position
-pub sound_with : (b b' : Book) (i : ℕ) (new : Cluster) → sound b ≡ true → b'.nodes ≡ b.nodes → b'.log ≡ b.log → b'.next_id ≡ b.next_id → vec_len b'.clusters ≡ vec_len b.clusters → vec_items b'.clusters ≡ set (vec_items b.clusters) i new → cluster_sound i new ≡ true → sound b' ≡ true
-sound_with b b' i new t nodes log next len items ok =
+-- a sound book with as many clusters, all sound too
+pub sound_clusters : (b b' : Book) → sound b ≡ true → b'.nodes ≡ b.nodes → b'.log ≡ b.log → b'.next_id ≡ b.next_id → vec_len b'.clusters ≡ vec_len b.clusters → clusters_sound 0 (vec_items b'.clusters) ≡ true → sound b' ≡ true
+sound_clusters b b' t nodes log next len all =
     let s = is_sound_lem b t in
     let few = s.few in
     let nds = s.nodes in
+    let ok = b'.clusters.ok.0 in
     sound_is b'
     (record {
       few = omega arith;
@@ -91,17 +99,22 @@ sound_with b b' i new t nodes log next len items ok =
       ascends = subst (λ l. ascending id_of (vec_items l) ≡ true) (sym log) s.ascends;
       below = subst (λ l. ids_below b'.next_id (vec_items l) ≡ true) (sym log) (subst (λ (z : ℕ). ids_below z (vec_items b.log) ≡ true) (sym next) s.below);
       addressed = subst (λ l. addressed (vec_len b'.clusters) (vec_items l) ≡ true) (sym log) (subst (λ (z : ℕ). addressed z (vec_items b.log) ≡ true) (sym len) s.addressed);
-      clusters = each s.clusters;
+      clusters = λ i c h e. subst (λ (z : ℕ). ClusterSound z c) (omega arith) (each_sound 0 (vec_items b'.clusters) all i c (omega arith) e);
     })
+
+-- a sound book with another cluster, sound too, at one position
+pub sound_with : (b b' : Book) (i : ℕ) (new : Cluster) → sound b ≡ true → b'.nodes ≡ b.nodes → b'.log ≡ b.log → b'.next_id ≡ b.next_id → vec_len b'.clusters ≡ vec_len b.clusters → vec_items b'.clusters ≡ set (vec_items b.clusters) i new → cluster_sound i new ≡ true → sound b' ≡ true
+sound_with b b' i new t nodes log next len items ok =
+    sound_clusters b b' t nodes log next len
+    (ap (clusters_sound 0) items ∙ sound_each 0 (set (vec_items b.clusters) i new) (λ j c h e. subst (λ (z : ℕ). ClusterSound z c) (omega arith) (each (clusters_of_sound b t) j c h e)))
   where
-    each : ((j : ℕ) (c : Cluster) → j < vec_len b.clusters → c ≡ get_or (vec_items b.clusters) j c → ClusterSound j c) → (j : ℕ) (c : Cluster) → j < vec_len b'.clusters → c ≡ get_or (vec_items b'.clusters) j c → ClusterSound j c
+    each : clusters_sound 0 (vec_items b.clusters) ≡ true → (j : ℕ) (c : Cluster) → j < length (set (vec_items b.clusters) i new) → c ≡ get_or (set (vec_items b.clusters) i new) j c → ClusterSound j c
     each all j c within read =
-        let read' : c ≡ get_or (set (vec_items b.clusters) i new) j c = read ∙ ap (λ (l : List Cluster). get_or l j c) items in
-        let ok-len = b.clusters.ok.0 in
+        let ok-len = length-set (vec_items b.clusters) i new in
         elim (cases_eq j i) [
-          | inl e ↦ (let same : c ≡ new = read' ∙ ap (λ (z : ℕ). get_or (set (vec_items b.clusters) i new) z c) e ∙ get_or-set_same (vec_items b.clusters) i new c (omega arith) in
+          | inl e ↦ (let same : c ≡ new = read ∙ ap (λ (z : ℕ). get_or (set (vec_items b.clusters) i new) z c) e ∙ get_or-set_same (vec_items b.clusters) i new c (omega arith) in
               subst (λ (z : Cluster). ClusterSound j z) (sym same) (subst (λ (z : ℕ). ClusterSound z new) (sym e) (cluster_is_sound i new ok)))
-          | inr ne ↦ all j c (omega arith) (read' ∙ get_or-set_other (vec_items b.clusters) i j new c ne)
+          | inr ne ↦ subst (λ (z : ℕ). ClusterSound z c) (omega arith) (each_sound 0 (vec_items b.clusters) all j c (omega arith) (read ∙ get_or-set_other (vec_items b.clusters) i j new c ne))
         ]
 
 -- a sound book with another log, as sound as a log has to be

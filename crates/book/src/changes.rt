@@ -101,8 +101,8 @@ impl Book {
         ensures after { (m : Model) → view self.new m ≡ with_clusters (view self.old m) (drop_rounds (groups self.old)) }
         ensures sound { is_sound self.new ≡ true }
     {
-        for i in 0..self.clusters.len() {
-            self.set_round(i, None);
+        for cluster in self.clusters.iter_mut() {
+            cluster.round = None;
         }
     }
 }

@@ -13,10 +13,8 @@ pub fn checkpoint_at(kept: &[Checkpoint], number: u32) -> Option<Checkpoint>
     requires { ascending number_of kept.now ≡ true }
     ensures { result ≡ checkpoint_at kept.now number }
 {
-    match find(kept, number) {
-        Ok(at) => Some(kept[at]),
-        Err(_) => None,
-    }
+    let at = find(kept, number).ok()?;
+    Some(kept[at])
 }
 
 // Where the message with this id stands in the log.
@@ -24,8 +22,5 @@ pub fn logged_at(log: &[Logged], id: u32) -> Option<usize>
     requires { ascending id_of log.now ≡ true }
     ensures { LoggedAt log.now id result }
 {
-    match find(log, id) {
-        Ok(at) => Some(at),
-        Err(_) => None,
-    }
+    find(log, id).ok()
 }

@@ -12,10 +12,8 @@ mod changes;
 mod clusters;
 mod find;
 mod opens;
-mod short_list;
 
 pub use find::{checkpoint_at, logged_at};
-pub use short_list::ShortList;
 
 // A cluster keeps at most 16 checkpoints.
 pub const MOST_KEPT: usize = 16;
@@ -25,6 +23,10 @@ pub const MOST_MESSAGES: usize = 128;
 
 // Numbers of checkpoints, ids and restarts end here.
 pub const LAST_NUMBER: u32 = 1_000_000;
+
+// The place of a cluster that is not called back: above every number. As a number, each test and each minimum of places is one
+// comparison; as an Option each would be a match.
+pub const STAYS: u32 = 1_000_001;
 
 // One cluster: its row, its kept checkpoints, the oldest first, and its open round.
 #[derive(Drop)]

@@ -1,9 +1,7 @@
 -- A cluster that loses checkpoints stays sound: the filter keeps what the test of each checkpoint says, and the row that it goes
 -- back to has the number of that place as its own entry, so the cluster's number does not rise.
-use Rattle.std.proofs.Common.{◌≡◌, ℕ, ◌<◌, ◌≤◌, Bool, true, false, eqb, ltb, leb, List, [], ◌∷◌, length, get_or, set, is_some, Some, None, vec_items, vec_len, vec_capacity, filter, Option, sym, refl, ap, ◌∙◌, subst, inl, inr, arith}
-use Rattle.std.specs.Vec.{with_item}
-use Rattle.std.proofs.lemmas.List.{get_or-set_same, get_or-set_other}
-use Rattle.std.proofs.lemmas.Bool.{cond-true, cond-false, cond_both, cases_Bool, cases_eq, eqb-true, leb-true, ltb-true, lt-ltb, le-leb}
+use Rattle.std.proofs.Common.{◌≡◌, ℕ, ◌≤◌, Bool, true, false, eqb, ltb, leb, List, [], ◌∷◌, length, is_some, Some, None, vec_items, vec_len, vec_capacity, filter, Option, sym, refl, ap, ◌∙◌, subst, inl, inr, arith}
+use Rattle.std.proofs.lemmas.Bool.{cond-true, cond-false, cond_both, cases_Bool, eqb-true, leb-true, ltb-true, lt-ltb, le-leb}
 use Rattle.store.specs.Table.{both}
 use Rattle.store.proofs.Orders.{both_true, both_from}
 use Rattle.ordered.specs.Seek.{ascending}
@@ -11,8 +9,7 @@ use Rattle.law.specs.declared.Checkpoint.{Checkpoint}
 use Rattle.law.specs.declared.Round.{Round}
 use Rattle.law.specs.Book.{entry, checkpoint_at, row_or, stays, most_kept, last_number}
 use Rattle.book.specs.declared.Cluster.{Cluster}
-use Rattle.book.specs.declared.Book.{Book}
-use Rattle.book.specs.Sound.{topped, can_end, number_of, ClusterSound, Sound}
+use Rattle.book.specs.Sound.{topped, can_end, number_of, ClusterSound}
 use Rattle.pruning.specs.Cutting.{row_back}
 use Rattle.law.proofs.Prune.{length_kept}
 use Rattle.pruning.proofs.Filtering.{every, every_kept, ascending_kept}
@@ -91,28 +88,3 @@ module _ (i : ℕ) (was new : Cluster) (p : Checkpoint → Bool) where
         ends = ends-lower (is_some new.round) (vec_len was.kept) (vec_len new.kept) (entry was.row i) (entry new.row i) fewer lower
             (ap (λ (z : Option Round). can_end (is_some z) (vec_len was.kept) (entry was.row i)) round ∙ s.ends);
       }
-
--- a book in which one cluster is another sound one
-abbrev pub with_one : Book → ℕ → Cluster → Book
-with_one b i c =
-    record { name = b.name; nodes = b.nodes; clusters = with_item b.clusters i c; log = b.log; next_id = b.next_id; restarts = b.restarts; restart = b.restart }
-
-pub book_stays : (b : Book) (i : ℕ) (c : Cluster) → i < vec_len b.clusters → Sound b → ClusterSound i c → Sound (with_one b i c)
-book_stays b i c h s one =
-    let len = b.clusters.ok.0 in
-    record {
-      few = s.few;
-      nodes = s.nodes;
-      room = s.room;
-      short = s.short;
-      ascends = s.ascends;
-      below = s.below;
-      addressed = s.addressed;
-      clusters = λ j d in' read. elim (cases_eq j i) [
-        | inl e ↦ (
-            let here : get_or (set (vec_items b.clusters) i c) i d ≡ c = get_or-set_same (vec_items b.clusters) i c d (omega arith) in
-            let is : d ≡ c = read ∙ ap (λ (z : ℕ). get_or (set (vec_items b.clusters) i c) z d) e ∙ here in
-            subst (λ (z : ℕ). ClusterSound z d) (sym e) (subst (λ (z : Cluster). ClusterSound i z) (sym is) one))
-        | inr ne ↦ s.clusters j d in' (read ∙ get_or-set_other (vec_items b.clusters) i j c d ne)
-      ];
-    }

@@ -1,5 +1,5 @@
 // Clusters cut one after another: each loses kept checkpoints, and the store their rows.
-ghost use Rattle.std.specs.Prelude.{◌≡◌, ℕ, ◌<◌, Bool, true, vec_len, nat_le, nat_lt, slice_index};
+ghost use Rattle.std.specs.Prelude.{◌≡◌, ℕ, ◌<◌, Bool, true, filter, vec_len, vec_capacity, nat_le, nat_lt, slice_index};
 ghost use Rattle.ordered.specs.Seek.{ascending};
 ghost use Rattle.law.specs.Book.{Cluster as Group};
 ghost use Rattle.law.specs.Restarts.{back, discard, prune as pruned};
@@ -8,9 +8,8 @@ ghost use Rattle.book.specs.View.{group, view};
 ghost use Rattle.book.specs.Sound.{number_of, cluster_sound, sound};
 ghost use Rattle.pruning.specs.Cutting.{prune_at, row_back};
 
-use crate::filter::{Test, retain};
-use crate::{Back, Collect, STAYS, entry};
-use book::{Book, Cluster, checkpoint_at};
+use crate::{Back, Collect, entry};
+use book::{Book, Cluster, STAYS, checkpoint_at};
 use law::Checkpoint;
 use store::Store;
 
@@ -42,32 +41,20 @@ fn discard_rows<C: Cut, S: Store>(store: &mut S, i: u8, checkpoints: &[Checkpoin
     }
 }
 
-// The checkpoints at a place or before it.
-#[derive(Clone, Copy)]
-struct UpTo {
-    place: u32,
+// Keeps the checkpoints at a place or before it.
+fn keep_up_to(kept: &mut Vec<Checkpoint>, place: u32)
+    ensures items { kept.new.items ≡ filter (λ c. nat_le c.number place) kept.old.items }
+    ensures capacity { vec_capacity kept.new ≡ vec_capacity kept.old }
+{
+    kept.retain(|checkpoint| checkpoint.number <= place);
 }
 
-impl Test<Checkpoint> for UpTo {
-    ghost says = { λ t c. nat_le c.number t.place };
-
-    fn passes(&self, checkpoint: &Checkpoint) -> bool {
-        checkpoint.number <= self.place
-    }
-}
-
-// The checkpoints from a bound on.
-#[derive(Clone, Copy)]
-struct NotBelow {
-    bound: u32,
-}
-
-impl Test<Checkpoint> for NotBelow {
-    ghost says = { λ t c. nat_le t.bound c.number };
-
-    fn passes(&self, checkpoint: &Checkpoint) -> bool {
-        self.bound <= checkpoint.number
-    }
+// Keeps the checkpoints from a bound on.
+fn keep_from(kept: &mut Vec<Checkpoint>, bound: u32)
+    ensures items { kept.new.items ≡ filter (λ c. nat_le bound c.number) kept.old.items }
+    ensures capacity { vec_capacity kept.new ≡ vec_capacity kept.old }
+{
+    kept.retain(|checkpoint| bound <= checkpoint.number);
 }
 
 // The row of a cluster as it was at its place.
@@ -98,7 +85,7 @@ impl Cut for Back {
         let place = entry(&self.places, i);
         let row = row_back(cluster, place);
         cluster.row = row;
-        retain(&mut cluster.kept, &UpTo { place });
+        keep_up_to(&mut cluster.kept, place);
     }
 }
 
@@ -114,7 +101,7 @@ impl Cut for Collect {
 
     fn change(&self, i: u8, cluster: &mut Cluster) {
         let bound = entry(&self.bounds, i);
-        retain(&mut cluster.kept, &NotBelow { bound });
+        keep_from(&mut cluster.kept, bound);
     }
 }
 

@@ -12,13 +12,9 @@ use book::Book;
 use store::Store;
 
 mod cut;
-mod filter;
 mod log;
 
 pub use log::{again, log_back, log_from};
-
-// The place of a cluster that is not called back: above every number.
-pub const STAYS: u32 = 1000001;
 
 // Where clusters go back to: the place of each.
 #[derive(Clone, Copy)]
@@ -36,10 +32,7 @@ struct Collect {
 fn entry(row: &[u32; 8], cluster: u8) -> u32
     ensures { result ≡ slice_index row.now cluster }
 {
-    match row.get(cluster as usize) {
-        Some(number) => *number,
-        None => 0,
-    }
+    row.get(usize::from(cluster)).copied().unwrap_or(0)
 }
 
 // Every cluster back at its place: later checkpoints are gone from the book and the store, and the row is as it was there.

@@ -1,32 +1,20 @@
 // What stays of the log, and which messages go again.
-ghost use Rattle.std.specs.Prelude.{◌≡◌, ◌≤◌, not, length, vec_capacity, slice_index};
+ghost use Rattle.std.specs.Prelude.{◌≡◌, ◌≤◌, not, length, filter, vec_capacity, slice_index};
 ghost use Rattle.law.specs.Restarts.{undone, receipt_left, unreceived, log_back, to_go_again, again as go_again};
 ghost use Rattle.law.specs.Trials.{received_from, log_from};
-ghost use Rattle.book.specs.Listed.{listed};
 
-use crate::filter::{Test, retain};
-use crate::{Back, Collect, STAYS, entry};
-use book::ShortList;
+use crate::entry;
+use arrayvec::ArrayVec;
+use book::STAYS;
 use law::Logged;
 
-// A message stays unless its sending is undone.
-impl Test<Logged> for Back {
-    ghost says = { λ b m. not (undone b.places m) };
-
-    fn passes(&self, logged: &Logged) -> bool {
-        logged.message.number < entry(&self.places, logged.message.from)
-    }
-}
-
 // A message stays if it is undelivered, or its receipt number is not below its receiver's bound.
-impl Test<Logged> for Collect {
-    ghost says = { λ c m. received_from (slice_index c.bounds m.message.to) m.receipt };
-
-    fn passes(&self, logged: &Logged) -> bool {
-        match logged.receipt {
-            Some(receipt) => entry(&self.bounds, logged.message.to) <= receipt,
-            None => true,
-        }
+fn is_needed(logged: &Logged, bounds: &[u32; 8]) -> bool
+    ensures { result ≡ received_from (slice_index bounds.now logged.now.message.to) logged.now.receipt }
+{
+    match logged.receipt {
+        Some(receipt) => entry(bounds, logged.message.to) <= receipt,
+        None => true,
     }
 }
 
@@ -35,7 +23,15 @@ pub fn log_from(log: &mut Vec<Logged>, bounds: &[u32; 8])
     ensures items { log.new.items ≡ log_from bounds.now log.old.items }
     ensures capacity { vec_capacity log.new ≡ vec_capacity log.old }
 {
-    retain(log, &Collect { bounds: *bounds });
+    log.retain(|logged| is_needed(logged, bounds));
+}
+
+// A message whose sending is not undone stays.
+fn drop_undone(log: &mut Vec<Logged>, places: &[u32; 8])
+    ensures items { log.new.items ≡ filter (λ m. not (undone places.now m)) log.old.items }
+    ensures capacity { vec_capacity log.new ≡ vec_capacity log.old }
+{
+    log.retain(|logged| logged.message.number < entry(places, logged.message.from));
 }
 
 // The log after clusters went back: undone messages are gone, and receipts at or above the receiver's place are cleared.
@@ -43,9 +39,9 @@ pub fn log_back(log: &mut Vec<Logged>, places: &[u32; 8])
     ensures items { log.new.items ≡ log_back places.now log.old.items }
     ensures capacity { vec_capacity log.new ≡ vec_capacity log.old }
 {
-    retain(log, &Back { places: *places });
-    for i in 0..log.len() {
-        log[i] = unreceive(log[i], places);
+    drop_undone(log, places);
+    for logged in log.iter_mut() {
+        *logged = unreceive(*logged, places);
     }
 }
 
@@ -63,10 +59,7 @@ fn unreceive(logged: Logged, places: &[u32; 8]) -> Logged
 fn receipt_left(receipt: Option<u32>, place: u32) -> Option<u32>
     ensures { result ≡ receipt_left place receipt }
 {
-    match receipt {
-        Some(number) if number < place => Some(number),
-        _ => None,
-    }
+    receipt.filter(|number| *number < place)
 }
 
 // Whether a message goes again: it is undelivered, and its receiver was called back.
@@ -77,11 +70,11 @@ fn goes_again(logged: &Logged, places: &[u32; 8]) -> bool
 }
 
 // The ids of the messages that go again, ascending.
-pub fn again(log: &[Logged], places: &[u32; 8]) -> ShortList<u32, 128>
+pub fn again(log: &[Logged], places: &[u32; 8]) -> ArrayVec<u32, 128>
     requires { length log.now ≤ 128 }
-    ensures { listed result ≡ go_again places.now log.now }
+    ensures { result.items ≡ go_again places.now log.now }
 {
-    let mut ids = ShortList::new(0);
+    let mut ids = ArrayVec::new();
     for logged in log {
         if goes_again(logged, places) {
             ids.push(logged.message.id);

@@ -1,6 +1,8 @@
 -- The searches of a restart, one place further on: what is left gives the whole.
-use Rattle.std.proofs.Common.{◌≡◌, ℕ, suc, ◌+◌, ◌<◌, Bool, true, false, cond, ltb, List, ◌∷◌, length, get_or, drop, Some, None, Option, sym, ap, ◌∙◌, arith}
+use Rattle.std.proofs.Common.{◌≡◌, ℕ, suc, ◌+◌, ◌<◌, Bool, true, false, cond, ltb, List, [], ◌∷◌, length, get_or, drop, Some, None, Option, sym, refl, ap, ap₂, ◌∙◌, arith}
+use Rattle.std.specs.List.{position, position_or_len}
 use Rattle.std.proofs.lemmas.List.{at_drop_more}
+use Rattle.std.proofs.lemmas.Bool.{cond-true, lt-ltb}
 use Rattle.store.specs.Table.{both}
 use Rattle.law.specs.declared.Checkpoint.{Checkpoint}
 use Rattle.law.specs.declared.Alerts.{Alerts}
@@ -13,23 +15,33 @@ pub latest_more : (i s p : ℕ) (cs : List Checkpoint) (k : ℕ) (d : Checkpoint
 latest_more i s p cs k d found next h e =
     ap (latest i s p (drop (k + 1) cs)) e ∙ sym (at_drop_more (λ (z : List Checkpoint). latest i s p z found) cs k d h)
 
-pub true_here : (bs : List Bool) (k : ℕ) → k < length bs → get_or bs k false ≡ true → first_true k (drop k bs) ≡ Some k
-true_here bs k h e = at_drop_more (first_true k) bs k false h ∙ ap (λ (z : Bool). first_true k (z ∷ drop (k + 1) bs)) e
+-- the place that is found, counted from k
+set_from : (k : ℕ) (bs : List Bool) → first_true k bs ≡ cond (ltb (position_or_len (λ b. b) bs) (length bs)) (Some (k + position_or_len (λ b. b) bs)) None
+set_from k [] = refl
+set_from k (true ∷ bs) =
+    let at : k + 0 ≡ k = omega arith in
+    ap Some (sym at) ∙ sym (cond-true (ltb 0 (suc (length bs))) (Some (k + 0)) None (lt-ltb 0 (suc (length bs)) (omega arith)))
+set_from k (false ∷ bs) =
+    let m = position_or_len (λ (b : Bool). b) bs in
+    let one : suc k + m ≡ k + (1 + m) = omega arith in
+    let same : ltb m (length bs) ≡ ltb (1 + m) (suc (length bs)) = grind arith in
+    set_from (suc k) bs ∙ ap₂ (λ (t : Bool) (n : ℕ). cond t (Some n) None) same one
 
-pub true_more : (bs : List Bool) (k : ℕ) → k < length bs → get_or bs k false ≡ false → first_true (k + 1) (drop (k + 1) bs) ≡ first_true k (drop k bs)
-true_more bs k h e =
-    let one : k + 1 ≡ suc k = omega arith in
-    ap (λ (z : ℕ). first_true z (drop (k + 1) bs)) one ∙ sym (at_drop_more (first_true k) bs k false h ∙ ap (λ (z : Bool). first_true k (z ∷ drop (k + 1) bs)) e)
+pub first_set : (bs : List Bool) → position (λ b. b) bs ≡ first_true 0 bs
+first_set bs =
+    let m = position_or_len (λ (b : Bool). b) bs in
+    let none : m ≡ 0 + m = omega arith in
+    ap (λ (n : ℕ). cond (ltb m (length bs)) (Some n) None) none ∙ sym (set_from 0 bs)
 
 -- the alerts of one cluster, before those of the clusters after it
-waits_first : (ws : List Alerts) (k : ℕ) (d : Alerts) (o : Option ℕ) → k < length ws → o ≡ first_true 0 (get_or ws k d).to → first_waiting k (drop k ws) ≡ pair_with k o (first_waiting (suc k) (drop (k + 1) ws))
+waits_first : (ws : List Alerts) (k : ℕ) (d : Alerts) (o : Option ℕ) → k < length ws → o ≡ position (λ b. b) (get_or ws k d).to → first_waiting k (drop k ws) ≡ pair_with k o (first_waiting (suc k) (drop (k + 1) ws))
 waits_first ws k d o h e =
-    at_drop_more (first_waiting k) ws k d h ∙ ap (λ (z : Option ℕ). pair_with k z (first_waiting (suc k) (drop (k + 1) ws))) (sym e)
+    at_drop_more (first_waiting k) ws k d h ∙ ap (λ (z : Option ℕ). pair_with k z (first_waiting (suc k) (drop (k + 1) ws))) (sym (e ∙ first_set (get_or ws k d).to))
 
-pub waits_here : (ws : List Alerts) (k j : ℕ) (d : Alerts) → k < length ws → Some j ≡ first_true 0 (get_or ws k d).to → first_waiting k (drop k ws) ≡ Some (k, j)
+pub waits_here : (ws : List Alerts) (k j : ℕ) (d : Alerts) → k < length ws → Some j ≡ position (λ b. b) (get_or ws k d).to → first_waiting k (drop k ws) ≡ Some (k, j)
 waits_here ws k j d h e = waits_first ws k d (Some j) h e
 
-pub waits_more : (ws : List Alerts) (k : ℕ) (d : Alerts) → k < length ws → None ≡ first_true 0 (get_or ws k d).to → first_waiting (k + 1) (drop (k + 1) ws) ≡ first_waiting k (drop k ws)
+pub waits_more : (ws : List Alerts) (k : ℕ) (d : Alerts) → k < length ws → None ≡ position (λ b. b) (get_or ws k d).to → first_waiting (k + 1) (drop (k + 1) ws) ≡ first_waiting k (drop k ws)
 waits_more ws k d h e =
     let one : k + 1 ≡ suc k = omega arith in
     ap (λ (z : ℕ). first_waiting z (drop (k + 1) ws)) one ∙ sym (waits_first ws k d None h e)

@@ -1,5 +1,4 @@
 pub mod Carries
 pub mod Drains
 pub mod Firsts
-pub mod Fronts
 pub mod Lower

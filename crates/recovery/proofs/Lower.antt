@@ -1,14 +1,11 @@
--- The lower of two lists of places, place by place.
-use Rattle.std.proofs.Common.{◌≡◌, ℕ, zero, suc, ◌<◌, min, List, [], ◌∷◌, length, get_or, refl, ap, arith}
+-- The lower of two lists of places is told place by place.
+use Rattle.std.proofs.Common.{◌≡◌, ℕ, suc, ◌<◌, min, List, [], ◌∷◌, length, get_or, refl, ap₂, arith}
 use Rattle.law.specs.Trials.{lower}
 
-pub length-lower : (xs ys : List ℕ) → length xs ≡ length ys → length (lower xs ys) ≡ length xs
-length-lower [] ys h = refl
-length-lower (x ∷ xs) [] h = absurd (omega arith)
-length-lower (x ∷ xs) (y ∷ ys) h = ap suc (length-lower xs ys (omega arith))
-
-pub lower_at : (xs ys : List ℕ) (i : ℕ) → i < length xs → i < length ys → get_or (lower xs ys) i 0 ≡ min (get_or xs i 0) (get_or ys i 0)
-lower_at [] ys i h k = absurd (omega arith)
-lower_at (x ∷ xs) [] i h k = absurd (omega arith)
-lower_at (x ∷ xs) (y ∷ ys) zero h k = refl
-lower_at (x ∷ xs) (y ∷ ys) (suc i) h k = lower_at xs ys i (omega arith) (omega arith)
+pub lower_is : (zs xs ys : List ℕ) → length xs ≡ length zs → length ys ≡ length zs → ((i : ℕ) → i < length zs → get_or zs i 0 ≡ min (get_or xs i 0) (get_or ys i 0)) → zs ≡ lower xs ys
+lower_is [] [] ys p q h = refl
+lower_is [] (x ∷ xs) ys p q h = absurd (omega arith)
+lower_is (z ∷ zs) [] ys p q h = absurd (omega arith)
+lower_is (z ∷ zs) (x ∷ xs) [] p q h = absurd (omega arith)
+lower_is (z ∷ zs) (x ∷ xs) (y ∷ ys) p q h =
+    ap₂ (λ (a : ℕ) (l : List ℕ). a ∷ l) (h 0 (omega arith)) (lower_is zs xs ys (omega arith) (omega arith) (λ i k. h (suc i) (omega arith)))

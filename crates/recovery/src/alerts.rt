@@ -1,5 +1,5 @@
 // Carrying alerts: a cluster that heard of what is undone goes back before it, and alerts the others in turn.
-ghost use Rattle.std.specs.Prelude.{◌≡◌, ◌<◌, ◌≤◌, true, map, length, is_some, IfSome, None, nat_lt};
+ghost use Rattle.std.specs.Prelude.{◌≡◌, ◌<◌, ◌≤◌, true, map, length, is_some, IfSome, None, nat_lt, position};
 ghost use Rattle.ordered.specs.Seek.{ascending};
 ghost use Rattle.store.specs.Table.{both};
 ghost use Rattle.law.specs.Book.{entry};
@@ -8,8 +8,8 @@ ghost use Rattle.book.specs.Sound.{number_of, clusters_sound};
 ghost use Rattle.book.specs.View.{group};
 ghost use Rattle.recovery.specs.Called.{entry_of, called_in};
 
-use super::places::{STAYS, to_others};
-use book::{Cluster, checkpoint_at};
+use super::places::to_others;
+use book::{Cluster, STAYS, checkpoint_at};
 use law::{Alerts, Checkpoint, Restart};
 
 // The cluster's entry for another, at its place: in its row, if it stays, else in the checkpoint there.
@@ -21,10 +21,7 @@ fn entry_of(cluster: &Cluster, place: u32, from: usize) -> u32
     if place == STAYS {
         return cluster.row[from];
     }
-    match checkpoint_at(cluster.kept.as_slice(), place) {
-        Some(checkpoint) => checkpoint.row[from],
-        None => 0,
-    }
+    checkpoint_at(&cluster.kept, place).map_or(0, |checkpoint| checkpoint.row[from])
 }
 
 // Whether a checkpoint is below the place and had not heard of what is undone.
@@ -40,6 +37,7 @@ fn latest(kept: &[Checkpoint], from: usize, back: u32, place: u32) -> Option<u32
     requires { from < 8 }
     ensures { result ≡ latest from back place kept.now None }
 {
+    // not filter, map and last: the search does not find what last gives, and the library has no lemma on it
     let mut found = None;
     for checkpoint in kept {
         if is_before(checkpoint, from, back, place) {
@@ -56,7 +54,7 @@ fn called_in(cluster: &Cluster, from: usize, back: u32, place: u32) -> Option<u3
     ensures { result ≡ called_in (group cluster.now) from back place }
 {
     if back <= entry_of(cluster, place, from) {
-        latest(cluster.kept.as_slice(), from, back, place)
+        latest(&cluster.kept, from, back, place)
     } else {
         None
     }
@@ -69,16 +67,8 @@ fn called_to(restart: &Restart, clusters: &[Cluster], from: usize, to: usize) ->
     requires sound { clusters_sound 0 clusters.now ≡ true }
     ensures { result ≡ called_to (map group clusters.now) restart.now from to }
 {
-    if to < clusters.len() {
-        called_in(
-            &clusters[to],
-            from,
-            restart.places[from],
-            restart.places[to],
-        )
-    } else {
-        None
-    }
+    let cluster = clusters.get(to)?;
+    called_in(cluster, from, restart.places[from], restart.places[to])
 }
 
 // Carries one alert, and tells whether the cluster that it reaches was called back.
@@ -104,15 +94,10 @@ pub fn carry(restart: &mut Restart, clusters: &[Cluster], from: usize, to: usize
 
 // The first place that is set.
 fn first_true(flags: &[bool; 8]) -> Option<usize>
-    ensures value { result ≡ first_true 0 flags.now }
+    ensures value { result ≡ position (λ b. b) flags.now }
     ensures within { IfSome result (λ at. at < 8) }
 {
-    for (at, flag) in flags.iter().enumerate() {
-        if *flag {
-            return Some(at);
-        }
-    }
-    None
+    flags.iter().position(|flag| *flag)
 }
 
 // The lowest pair of clusters between which an alert waits.
@@ -120,6 +105,7 @@ fn first_waiting(waiting: &[Alerts; 8]) -> Option<(usize, usize)>
     ensures value { result ≡ first_waiting 0 waiting.now }
     ensures within { IfSome result (λ pair. (pair.0 < 8) × (pair.1 < 8)) }
 {
+    // not find_map: the search does not find which pair it gives
     for (from, alerts) in waiting.iter().enumerate() {
         if let Some(to) = first_true(&alerts.to) {
             return Some((from, to));

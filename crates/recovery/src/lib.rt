@@ -7,5 +7,5 @@ mod places;
 mod simulate;
 
 pub use alerts::{carry, drain};
-pub use places::{CLUSTERS, STAYS, begin, told, told_places};
+pub use places::{CLUSTERS, begin, told, told_places};
 pub use simulate::{bounds, trial};

@@ -1,18 +1,14 @@
 // The places of a restart: how it begins, and how its places are told.
-ghost use Rattle.std.specs.Prelude.{◌≡◌, ◌<◌, ◌≤◌, map, length};
+ghost use Rattle.std.specs.Prelude.{◌≡◌, ◌<◌, ◌≤◌, map, min, length, slice_index, EachIndex};
 ghost use Rattle.book.specs.View.{group};
-ghost use Rattle.book.specs.Listed.{listed};
 ghost use Rattle.law.specs.Restarts.{to_others, begun, told, tells_places};
-ghost use Rattle.law.specs.Trials.{lower};
 
-use book::{Cluster, ShortList};
+use arrayvec::ArrayVec;
+use book::{Cluster, STAYS};
 use law::{Alerts, Restart};
 
 // A federation has at most this many clusters.
 pub const CLUSTERS: usize = 8;
-
-// The place of a cluster that is not called back: above every number.
-pub const STAYS: u32 = 1_000_001;
 
 // Alerts from one cluster to every other.
 pub(super) fn to_others(count: usize, from: usize) -> Alerts
@@ -21,9 +17,7 @@ pub(super) fn to_others(count: usize, from: usize) -> Alerts
     ensures { result ≡ to_others count from }
 {
     let mut to = [false; CLUSTERS];
-    for other in 0..count {
-        to[other] = true;
-    }
+    to[..count].fill(true);
     to[from] = false;
     Alerts { to }
 }
@@ -56,24 +50,20 @@ pub fn told(place: u32) -> u32
 }
 
 // The places of this many clusters, as they are told.
-pub fn told_places(places: &[u32; 8], count: usize) -> ShortList<u32, 8>
+pub fn told_places(places: &[u32; 8], count: usize) -> ArrayVec<u32, 8>
     requires { count ≤ 8 }
-    ensures { listed result ≡ tells_places count places.now }
+    ensures { result.items ≡ tells_places count places.now }
 {
-    let mut list = ShortList::new(0);
-    for i in 0..count {
-        list.push(told(places[i]));
+    let mut list = ArrayVec::new();
+    for place in &places[..count] {
+        list.push(told(*place));
     }
     list
 }
 
 // The lower of each two places.
 pub(super) fn lower_of(a: [u32; 8], b: [u32; 8]) -> [u32; 8]
-    ensures { result ≡ lower a b }
+    ensures { EachIndex result (λ i. slice_index result i ≡ min (slice_index a i) (slice_index b i)) }
 {
-    let mut low = a;
-    for i in 0..CLUSTERS {
-        low[i] = a[i].min(b[i]);
-    }
-    low
+    std::array::from_fn(|i| a[i].min(b[i]))
 }

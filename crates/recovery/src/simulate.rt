@@ -5,8 +5,8 @@ ghost use Rattle.book.specs.Sound.{clusters_sound};
 ghost use Rattle.book.specs.View.{group};
 
 use super::alerts::drain;
-use super::places::{CLUSTERS, STAYS, begin, lower_of};
-use book::Cluster;
+use super::places::{CLUSTERS, begin, lower_of};
+use book::{Cluster, STAYS};
 use law::Restart;
 
 // Puts back the restart that was there, however a trial ends.
@@ -34,14 +34,9 @@ fn run(restart: &mut Option<Restart>, clusters: &[Cluster], failed: usize) -> [u
     requires sound { clusters_sound 0 clusters.now ≡ true }
     ensures { result ≡ trial (map group clusters.now) failed }
 {
-    *restart = Some(begin(clusters, failed));
-    match restart {
-        Some(tried) => {
-            drain(tried, clusters);
-            tried.places
-        }
-        None => unreachable(),
-    }
+    let tried = restart.insert(begin(clusters, failed));
+    drain(tried, clusters);
+    tried.places
 }
 
 // The places to which a fault would lead. The restart is as it was.
@@ -66,6 +61,7 @@ pub fn bounds(restart: &mut Option<Restart>, clusters: &[Cluster]) -> [u32; 8]
 {
     let mut low = [STAYS; CLUSTERS];
     for failed in 0..clusters.len() {
+        // by way of a name: no proof covers an array that a call writes back over its own argument
         let next = lower_of(low, trial(restart, clusters, failed));
         low = next;
     }

@@ -1,39 +1,31 @@
-use Rattle.std.proofs.Common.{◌≡◌, ℕ, ◌<◌, [], length, None, sym, ap, ◌∙◌, add-one, arith, length-set}
-use Rattle.store.specs.Table.{Model}
-use Rattle.law.specs.Book.{Book as Shown, with_clusters, with_cluster, with_round, at}
-use Rattle.book.specs.View.{view, groups}
-use Rattle.book.proofs.Groups.{shown_len}
-use Rattle.book.proofs.Dropping.{dropped, dropped_more, dropped_all}
+use Rattle.std.proofs.Common.{List, map, get_or, vec_items, refl, ap, ◌∙◌, arith}
+use Rattle.std.proofs.lemmas.List.{with_items_is}
+use Rattle.std.proofs.lemmas.List.Edits.{map_over_more}
+use Rattle.law.specs.Book.{with_clusters}
+use Rattle.book.specs.declared.Cluster.{Cluster}
+use Rattle.book.specs.Sound.{clusters_sound}
+use Rattle.book.specs.View.{view, group}
+use Rattle.book.proofs.Dropping.{closed, closed_shown, over_all, all_closed_sound}
+use Rattle.book.proofs.Soundness.{clusters_of_sound, sound_clusters}
 use Rattle.book.proofs.Book.drop_rounds.Goals as goal
 
-pub loop-i-preserved : goal.loop-i-preserved
-loop-i-preserved c =
-    let b = c.args.self.now in
-    let i = c.loop-i.i in
-    let now = c.loop-i.self in
-    let new = c.set_round.new.self in
-    let any : Model = record { table = []; capacity = 0; full = 0 } in
-    let G = groups b in
-    let within : i < length G = let l = shown_len b any in let t = c.loop-i.invariant.1 in omega arith in
-    let same_len : length (view new any).clusters ≡ length (view now any).clusters =
-    ap (λ (x : Shown). length x.clusters) (c.set_round.ensures.after any) ∙ length-set (view now any).clusters i _ in
-    let l = shown_len new any in
-    let k = shown_len now any in
-    let inv-len = c.loop-i.invariant.1 in (
-      c.set_round.ensures.sound,
-      omega arith,
-      λ m. c.set_round.ensures.after m
-          ∙ ap (λ (x : Shown). with_cluster x i (with_round (at x i) None)) (c.loop-i.invariant.2 m)
-          ∙ ap (with_clusters (view b m)) (dropped_more G i within)
-          ∙ ap (λ (z : ℕ). with_clusters (view b m) (dropped z G)) (sym (add-one i)),
-    )
+pub loop-cluster-init : goal.loop-cluster-init
+loop-cluster-init c = c.deref_mut-cluster-items.ensures.value
+
+pub loop-cluster-preserved : goal.loop-cluster-preserved
+loop-cluster-preserved c =
+    let len = c.args.self.now.clusters.ok.0 in
+    let at = get_or c.loop-cluster.cluster-items c.loop-cluster.cluster-index in
+    map_over_more closed (vec_items c.args.self.now.clusters) c.loop-cluster.cluster-items c.loop-cluster.cluster-index (at c.cluster-item.result) (omega arith) c.loop-cluster.invariant (ap at c.cluster-item.is)
 
 pub returns : goal.returns
 returns c =
-    let b = c.args.self.now in
-    let any : Model = record { table = []; capacity = 0; full = 0 } in
-    let l = shown_len b any in
+    let cs = c.args.self.now.clusters in
+    let ok = cs.ok.0 in
+    let now = c.loop-cluster.cluster-items in
+    let items = with_items_is cs now (omega arith) ∙ c.loop-cluster.invariant ∙ over_all closed (vec_items cs) c.loop-cluster.cluster-index (omega arith) in
     record {
-      after = λ m. c.loop-i.invariant.2 m ∙ ap (with_clusters (view b m)) (dropped_all (groups b) c.loop-i.i (omega arith));
-      sound = c.loop-i.invariant.0;
+      after = λ m. ap (λ (l : List Cluster). with_clusters (view c.args.self.now m) (map group l)) items ∙ ap (with_clusters (view c.args.self.now m)) (closed_shown (vec_items cs));
+      sound = sound_clusters c.args.self.now _ c.requires refl refl refl refl
+          (ap (clusters_sound 0) items ∙ all_closed_sound 0 (vec_items cs) (clusters_of_sound c.args.self.now c.requires));
     }

@@ -1,13 +1,8 @@
-use Rattle.std.proofs.Common.{◌≡◌, true, vec_len}
-use Rattle.store.specs.Table.{Model}
-use Rattle.law.specs.Book.{with_clusters}
-use Rattle.book.specs.Sound.{sound}
-use Rattle.book.specs.View.{view, groups}
-use Rattle.book.proofs.Dropping.{dropped}
+-- the clusters passed are without their rounds
+use Rattle.std.proofs.Common.{◌≡◌, ◌++◌, map, take, drop, vec_items}
+use Rattle.book.proofs.Dropping.{closed}
 use Rattle.book.proofs.Book.drop_rounds.Given as goal
 
-abbrev pub invariant-loop-i : goal.invariant-loop-i
-invariant-loop-i l =
-    (sound l.self ≡ true)
-    × (vec_len l.self.clusters ≡ vec_len l.initial.self.clusters)
-    × ((m : Model) → view l.self m ≡ with_clusters (view l.initial.self m) (dropped l.i (groups l.initial.self)))
+abbrev pub invariant-loop-cluster : goal.invariant-loop-cluster
+invariant-loop-cluster l =
+    l.cluster-items ≡ map closed (take l.cluster-index (vec_items l.fn.self.clusters)) ++ drop l.cluster-index (vec_items l.fn.self.clusters)

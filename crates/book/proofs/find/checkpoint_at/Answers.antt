@@ -1,14 +1,10 @@
-use Rattle.std.proofs.Common.{[], Ok, Err, sym, ◌∙◌}
-use Rattle.book.specs.Sound.{number_of}
-use Rattle.book.proofs.Finding.{first_told, checkpoint_first}
+use Rattle.std.proofs.Common.{[], Some, None, ◌∙◌}
+use Rattle.book.proofs.Finding.{checkpoint_told}
 use Rattle.book.proofs.find.checkpoint_at.Goals as goal
 
-pub returns-in-Ok : goal.returns-in-Ok
-returns-in-Ok c =
-    sym (checkpoint_first c.args.kept.now c.args.number
-    ∙ first_told number_of c.args.kept.now c.args.number (record { number = 0; row = [] }) (Ok c.in-Ok.at) c.in-Ok.ensures.value c.requires)
+pub returns-in_err-at : goal.returns-in_err-at
+returns-in_err-at c =
+    c.from_residual.ensures ∙ checkpoint_told c.args.kept.now c.args.number (record { number = 0; row = [] }) c.find.result None c.find.ensures.value c.in_err-at.ensures.value c.requires
 
-pub returns-in-Err : goal.returns-in-Err
-returns-in-Err c =
-    sym (checkpoint_first c.args.kept.now c.args.number
-    ∙ first_told number_of c.args.kept.now c.args.number (record { number = 0; row = [] }) (Err c.in-Err.field-0) c.in-Err.ensures.value c.requires)
+pub returns : goal.returns
+returns c = checkpoint_told c.args.kept.now c.args.number (record { number = 0; row = [] }) c.find.result (Some c.in_ok-at.at) c.find.ensures.value c.in_ok-at.ensures.value c.requires

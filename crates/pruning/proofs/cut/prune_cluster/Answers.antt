@@ -4,15 +4,14 @@ use Rattle.std.proofs.lemmas.List.{get_or_read}
 use Rattle.law.specs.declared.Checkpoint.{Checkpoint}
 use Rattle.law.specs.Restarts.{discard}
 use Rattle.book.specs.declared.Cluster.{Cluster}
-use Rattle.book.proofs.Soundness.{is_sound_lem, sound_is, cluster_is_sound, sound-cluster}
-use Rattle.pruning.proofs.Staying.{book_stays, with_one}
+use Rattle.book.proofs.Soundness.{cluster-sound, sound_with}
 use Rattle.pruning.proofs.Cutting.{prune-shown}
 use Rattle.pruning.proofs.cut.prune_cluster.Goals as goal
 
 pub change-requires : goal.change-requires
 change-requires g c =
     let b = c.args.book.now in
-    sound-cluster c.args.i c.index_mut.result.now ((is_sound_lem b c.requires.sound).clusters c.args.i c.index_mut.result.now c.requires.within c.index_mut.ensures.value)
+    cluster-sound b c.args.i c.index_mut.result.now c.requires.sound c.requires.within c.index_mut.ensures.value
 
 pub returns : goal.returns
 returns g c =
@@ -31,6 +30,6 @@ returns g c =
       after = prune-shown (g.C.Cut.change c.args.cut.now) gone b m i was new c.requires.within c.index_mut.ensures.value c.change.ensures.after
           (g.S.Store.model c.discard_rows.new.store) (c.discard_rows.ensures.after ∙ ap (λ (z : List Checkpoint). discard i (gone i) z m) rows);
       len = refl;
-      sound = sound_is (with_one b i new) (book_stays b i new c.requires.within (is_sound_lem b c.requires.sound) (cluster_is_sound i new c.change.ensures.sound));
+      sound = sound_with b _ i new c.requires.sound refl refl refl refl refl c.change.ensures.sound;
       store_sound = c.discard_rows.ensures.sound;
     }

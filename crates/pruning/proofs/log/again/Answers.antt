@@ -2,7 +2,6 @@
 use Rattle.std.proofs.Common.{length, sym, ap, ◌∙◌, arith, lit<}
 use Rattle.std.proofs.lemmas.List.{take_all}
 use Rattle.law.specs.Restarts.{to_go_again, again}
-use Rattle.book.specs.Listed.{listed}
 use Rattle.book.specs.Sound.{id_of}
 use Rattle.pruning.proofs.Picking.{picked_few, picked_more, picked_same}
 use Rattle.pruning.proofs.log.again.Goals as goal
@@ -19,11 +18,11 @@ loop-logged-preserved c =
     let goes = to_go_again c.args.places.now in
     elim c.if-goes_again.branch [
       | then-goes_again w ↦
-          ap listed w.ids-is ∙ w.push.ensures
-          ∙ picked_more id_of goes c.args.log.now c.loop-logged.logged-index (listed c.loop-logged.ids) _ c.loop-logged.invariant c.loop-logged-test.true (sym c.goes_again.ensures ∙ w.if-goes_again.true)
+          ap (λ v. v.items) w.ids-is ∙ w.push.ensures.items
+          ∙ picked_more id_of goes c.args.log.now c.loop-logged.logged-index (c.loop-logged.ids.items) _ c.loop-logged.invariant c.loop-logged-test.true (sym c.goes_again.ensures ∙ w.if-goes_again.true)
       | else-goes_again w ↦
-          ap listed w.ids-is
-          ∙ picked_same id_of goes c.args.log.now c.loop-logged.logged-index (listed c.loop-logged.ids) _ c.loop-logged.invariant c.loop-logged-test.true (sym c.goes_again.ensures ∙ w.if-goes_again.false)
+          ap (λ v. v.items) w.ids-is
+          ∙ picked_same id_of goes c.args.log.now c.loop-logged.logged-index (c.loop-logged.ids.items) _ c.loop-logged.invariant c.loop-logged-test.true (sym c.goes_again.ensures ∙ w.if-goes_again.false)
     ]
 
 pub returns : goal.returns

@@ -1,30 +1,33 @@
 -- all messages together are the whole log
-use Rattle.std.proofs.Common.{◌≤◌, List, ◌++◌, map, length, drop, set, vec_items, ap, ◌∙◌, arith}
-use Rattle.std.proofs.lemmas.List.{take_all, drop_all, append-nil}
+use Rattle.std.proofs.Common.{map, set, ap, ◌∙◌, arith}
+use Rattle.std.proofs.lemmas.List.{with_items_is, get_or_default}
 use Rattle.std.proofs.lemmas.List.Edits.{map_over_more}
 use Rattle.law.specs.declared.Logged.{Logged}
 use Rattle.law.specs.Restarts.{unreceived}
+use Rattle.book.proofs.Dropping.{over_all}
 use Rattle.pruning.proofs.log.log_back.Goals as goal
 
-pub loop-i-preserved : goal.loop-i-preserved
-loop-i-preserved c =
-    let xs = vec_items c.retain.new.items in
-    let len = c.retain.new.items.ok.0 in
-    let inv = c.loop-i.invariant in
-    let written = ap (λ (z : Logged). set (vec_items c.loop-i.log) c.loop-i.i z) c.unreceive.ensures in
-    (written ∙ map_over_more (unreceived c.args.places.now) xs (vec_items c.loop-i.log) c.loop-i.i c.index.result.now (omega arith) inv.0 c.index.ensures, inv.1, inv.2)
+pub loop-logged-preserved : goal.loop-logged-preserved
+loop-logged-preserved c =
+    let xs = c.deref_mut-logged-items.result.now in
+    let ys = c.loop-logged.logged-items in
+    let i = c.loop-logged.logged-index in
+    let long = c.loop-logged.auto.logged-items in
+    let more = c.loop-logged-test.true in
+    ap (λ (z : Logged). set ys i z) c.unreceive.ensures
+    ∙ map_over_more (unreceived c.args.places.now) xs ys i _ c.loop-logged-test.true c.loop-logged.invariant (get_or_default ys i _ _ (omega arith))
 
 pub returns : goal.returns
 returns c =
-    let xs = vec_items c.retain.new.items in
+    let log = c.drop_undone.new.log in
+    let xs = c.deref_mut-logged-items.result.now in
+    let len = log.ok.0 in
+    let long = c.loop-logged.auto.logged-items in
+    let same = c.deref_mut-logged-items.ensures.len in
     let f = unreceived c.args.places.now in
-    let len = c.retain.new.items.ok.0 in
-    let past : length xs ≤ c.loop-i.i = omega arith in
     record {
-      items = c.loop-i.invariant.0
-          ∙ ap (λ (z : List Logged). map f z ++ drop c.loop-i.i xs) (take_all c.loop-i.i xs past)
-          ∙ ap (λ (z : List Logged). map f xs ++ z) (drop_all c.loop-i.i xs past)
-          ∙ append-nil (map f xs)
-          ∙ ap (map f) c.retain.ensures.items;
-      capacity = c.loop-i.invariant.1 ∙ c.retain.ensures.capacity;
+      items = with_items_is log c.loop-logged.logged-items (omega arith)
+          ∙ c.loop-logged.invariant ∙ over_all f xs c.loop-logged.logged-index c.loop-logged-test.false
+          ∙ ap (map f) (c.deref_mut-logged-items.ensures.value ∙ c.drop_undone.ensures.items);
+      capacity = c.drop_undone.ensures.capacity;
     }

@@ -19,12 +19,12 @@ returns c =
     let place = c.entry-place.result in
     let i = c.args.i in
     let s = cluster_is_sound i was c.requires in
-    let new : Cluster = record { row = c.row_back-row.result; kept = c.retain.new.items; round = was.round } in
+    let new : Cluster = record { row = c.row_back-row.result; kept = c.keep_up_to.new.kept; round = was.round } in
     let there : Settled place (entry was.row i) (entry c.row_back-row.result i) =
     subst (λ (z : List ℕ). Settled place (entry was.row i) (entry z i)) (sym c.row_back-row.ensures) (settled i place was.row (vec_items was.kept) s.topped) in
     record {
-      after = back-shown was place c.row_back-row.result (vec_items c.retain.new.items) c.row_back-row.ensures c.retain.ensures.items
+      after = back-shown was place c.row_back-row.result (vec_items c.keep_up_to.new.kept) c.row_back-row.ensures c.keep_up_to.ensures.items
           ∙ ap (λ (z : ℕ). back z (group was)) c.entry-place.ensures;
-      sound = sound-cluster i new (cluster-stays i was new (λ k. leb k.number place) s c.retain.ensures.items c.retain.ensures.capacity refl there.0
+      sound = sound-cluster i new (cluster-stays i was new (λ k. leb k.number place) s c.keep_up_to.ensures.items c.keep_up_to.ensures.capacity refl there.0
           (λ k passes low. there.1 k.number (leb-true k.number place passes) low));
     }

@@ -14,8 +14,8 @@ returns c =
     let bound = c.entry-bound.result in
     let i = c.args.i in
     let s = cluster_is_sound i was c.requires in
-    let new : Cluster = record { row = was.row; kept = c.retain.new.items; round = was.round } in
+    let new : Cluster = record { row = was.row; kept = c.keep_from.new.kept; round = was.round } in
     record {
-      after = from_shown was bound (vec_items c.retain.new.items) c.retain.ensures.items ∙ ap (λ (z : ℕ). from z (group was)) c.entry-bound.ensures;
-      sound = sound-cluster i new (cluster-stays i was new (λ k. leb bound k.number) s c.retain.ensures.items c.retain.ensures.capacity refl (omega arith) (λ k passes low. low));
+      after = from_shown was bound (vec_items c.keep_from.new.kept) c.keep_from.ensures.items ∙ ap (λ (z : ℕ). from z (group was)) c.entry-bound.ensures;
+      sound = sound-cluster i new (cluster-stays i was new (λ k. leb bound k.number) s c.keep_from.ensures.items c.keep_from.ensures.capacity refl (omega arith) (λ k passes low. low));
     }
