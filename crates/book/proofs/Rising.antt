@@ -3,7 +3,9 @@
 use Rattle.std.proofs.Common.{◌≡◌, ℕ, suc, ◌<◌, ◌≤◌, Bool, true, false, eqb, leb, List, [], ◌∷◌, ◌++◌, sym, refl, ◌∙◌, arith}
 use Rattle.std.specs.List.{AllByRecursion as All}
 use Rattle.std.proofs.lemmas.Bool.{lt-ltb, ltb-true, le-leb, leb-true, eq-eqb, and_parts, and_from, true≢false}
+use Rattle.std.specs.Ordering.{nat_cmp}
 use Rattle.ordered.specs.Seek.{ascending, leads}
+use Rattle.ordered.proofs.Seeking.{lt-below}
 use Rattle.store.specs.Table.{both}
 use Rattle.store.proofs.Orders.{both_true}
 use Rattle.law.specs.declared.Checkpoint.{Checkpoint}
@@ -13,14 +15,14 @@ use Rattle.book.specs.Sound.{number_of, id_of, topped, ids_below, addressed, bet
 use Rattle.book.proofs.Soundness.{both_is}
 
 module _ {X : Type 0} (key : X → ℕ) where
-  leads_push : (x : X) (xs : List X) (y : X) → leads key x xs ≡ true → key x < key y → leads key x (xs ++ (y ∷ [])) ≡ true
-  leads_push x [] y t lt = lt-ltb _ _ lt
+  leads_push : (x : X) (xs : List X) (y : X) → leads nat_cmp key x xs ≡ true → key x < key y → leads nat_cmp key x (xs ++ (y ∷ [])) ≡ true
+  leads_push x [] y t lt = lt-below (key x) (key y) lt
   leads_push x (z ∷ zs) y t lt = t
 
-  pub ascending_push : (xs : List X) (y : X) → ascending key xs ≡ true → All (λ x. key x < key y) xs → ascending key (xs ++ (y ∷ [])) ≡ true
+  pub ascending_push : (xs : List X) (y : X) → ascending nat_cmp key xs ≡ true → All (λ x. key x < key y) xs → ascending nat_cmp key (xs ++ (y ∷ [])) ≡ true
   ascending_push [] y up below = refl
   ascending_push (x ∷ xs) y up below =
-      let parts = and_parts (leads key x xs) (ascending key xs) up in
+      let parts = and_parts (leads nat_cmp key x xs) (ascending nat_cmp key xs) up in
       and_from _ _ (leads_push x xs y parts.0 below.0) (ascending_push xs y parts.1 below.1)
 
 pub ids_below_lem : (next : ℕ) (ms : List Logged) → ids_below next ms ≡ true → All (λ m. id_of m < next) ms

@@ -7,6 +7,7 @@ use Rattle.store.proofs.Orders.{both_true}
 use Rattle.law.specs.Book.{most_clusters, most_messages}
 use Rattle.book.specs.declared.Cluster.{Cluster}
 use Rattle.book.specs.declared.Book.{Book}
+use Rattle.std.specs.Ordering.{nat_cmp}
 use Rattle.ordered.specs.Seek.{ascending}
 use Rattle.book.specs.Sound.{cluster_sound, clusters_sound, sound, ClusterSound, Sound, id_of, ids_below, addressed}
 
@@ -96,7 +97,7 @@ sound_clusters b b' t nodes log next len all =
       nodes = omega arith;
       room = subst (λ l. most_messages ≤ vec_capacity l) (sym log) s.room;
       short = subst (λ l. vec_len l ≤ most_messages) (sym log) s.short;
-      ascends = subst (λ l. ascending id_of (vec_items l) ≡ true) (sym log) s.ascends;
+      ascends = subst (λ l. ascending nat_cmp id_of (vec_items l) ≡ true) (sym log) s.ascends;
       below = subst (λ l. ids_below b'.next_id (vec_items l) ≡ true) (sym log) (subst (λ (z : ℕ). ids_below z (vec_items b.log) ≡ true) (sym next) s.below);
       addressed = subst (λ l. addressed (vec_len b'.clusters) (vec_items l) ≡ true) (sym log) (subst (λ (z : ℕ). addressed z (vec_items b.log) ≡ true) (sym len) s.addressed);
       clusters = λ i c h e. subst (λ (z : ℕ). ClusterSound z c) (omega arith) (each_sound 0 (vec_items b'.clusters) all i c (omega arith) e);
@@ -118,7 +119,7 @@ sound_with b b' i new t nodes log next len items ok =
         ]
 
 -- a sound book with another log, as sound as a log has to be
-pub sound-log : (b b' : Book) → sound b ≡ true → b'.nodes ≡ b.nodes → b'.clusters ≡ b.clusters → most_messages ≤ vec_capacity b'.log → vec_len b'.log ≤ most_messages → ascending id_of (vec_items b'.log) ≡ true → ids_below b'.next_id (vec_items b'.log) ≡ true → addressed (vec_len b.clusters) (vec_items b'.log) ≡ true → sound b' ≡ true
+pub sound-log : (b b' : Book) → sound b ≡ true → b'.nodes ≡ b.nodes → b'.clusters ≡ b.clusters → most_messages ≤ vec_capacity b'.log → vec_len b'.log ≤ most_messages → ascending nat_cmp id_of (vec_items b'.log) ≡ true → ids_below b'.next_id (vec_items b'.log) ≡ true → addressed (vec_len b.clusters) (vec_items b'.log) ≡ true → sound b' ≡ true
 sound-log b b' t nodes clusters room short ascends below addresses =
     let s = is_sound_lem b t in
     let nds = s.nodes in

@@ -6,6 +6,7 @@
 --   addressed      each message goes between two different clusters of the federation
 --   ids_below      no id is given twice: all in the log are below the next
 use Rattle.std.specs.Prelude.{◌≡◌, ℕ, suc, ◌<◌, ◌≤◌, Bool, true, false, not, List, [], ◌∷◌, is_some, vec_items, vec_len, vec_capacity, ◌==◌, nat_le, nat_lt, slice_index_or}
+use Rattle.std.specs.Ordering.{nat_cmp}
 use Rattle.ordered.specs.Seek.{ascending}
 use Rattle.store.specs.Table.{both}
 use Rattle.law.specs.declared.Logged.{Logged}
@@ -48,7 +49,7 @@ unfoldable pub cluster_sound : ℕ → Cluster → Bool
 cluster_sound i c =
     both (nat_le most_kept (vec_capacity c.kept))
     (both (nat_le (vec_len c.kept) most_kept)
-    (both (ascending number_of (vec_items c.kept))
+    (both (ascending nat_cmp number_of (vec_items c.kept))
     (both (topped i (entry c.row i) (vec_items c.kept))
     (can_end (is_some c.round) (vec_len c.kept) (entry c.row i)))))
 
@@ -62,7 +63,7 @@ sound b =
     (both (nat_le b.nodes most_nodes)
     (both (nat_le most_messages (vec_capacity b.log))
     (both (nat_le (vec_len b.log) most_messages)
-    (both (ascending id_of (vec_items b.log))
+    (both (ascending nat_cmp id_of (vec_items b.log))
     (both (ids_below b.next_id (vec_items b.log))
     (both (addressed (vec_len b.clusters) (vec_items b.log))
     (clusters_sound 0 (vec_items b.clusters))))))))
@@ -70,7 +71,7 @@ sound b =
 pub record ClusterSound (i : ℕ) (c : Cluster) : Type 0 where
   pub room : most_kept ≤ vec_capacity c.kept
   pub few : vec_len c.kept ≤ most_kept
-  pub ascends : ascending number_of (vec_items c.kept) ≡ true
+  pub ascends : ascending nat_cmp number_of (vec_items c.kept) ≡ true
   pub topped : topped i (entry c.row i) (vec_items c.kept) ≡ true
   pub ends : can_end (is_some c.round) (vec_len c.kept) (entry c.row i) ≡ true
 
@@ -79,7 +80,7 @@ pub record Sound (b : Book) : Type 0 where
   pub nodes : b.nodes ≤ most_nodes
   pub room : most_messages ≤ vec_capacity b.log
   pub short : vec_len b.log ≤ most_messages
-  pub ascends : ascending id_of (vec_items b.log) ≡ true
+  pub ascends : ascending nat_cmp id_of (vec_items b.log) ≡ true
   pub below : ids_below b.next_id (vec_items b.log) ≡ true
   pub addressed : addressed (vec_len b.clusters) (vec_items b.log) ≡ true
   pub clusters : (i : ℕ) (c : Cluster) → i < vec_len b.clusters → c ≡ slice_index_or (vec_items b.clusters) i c → ClusterSound i c

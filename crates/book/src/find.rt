@@ -1,5 +1,6 @@
 // Kept checkpoints are found by their number and messages by their id, both by the one search.
 ghost use Rattle.std.specs.Prelude.{◌≡◌, ◌<◌, true, length};
+ghost use Rattle.std.specs.Ordering.{nat_cmp};
 ghost use Rattle.ordered.specs.Seek.{ascending};
 ghost use Rattle.law.specs.Book.{checkpoint_at, logged};
 ghost use Rattle.book.specs.Sound.{number_of, id_of};
@@ -10,7 +11,7 @@ use ordered::find;
 
 // The kept checkpoint with this number.
 pub fn checkpoint_at(kept: &[Checkpoint], number: u32) -> Option<Checkpoint>
-    requires { ascending number_of kept.now ≡ true }
+    requires { ascending nat_cmp number_of kept.now ≡ true }
     ensures { result ≡ checkpoint_at kept.now number }
 {
     let at = find(kept, number).ok()?;
@@ -19,7 +20,7 @@ pub fn checkpoint_at(kept: &[Checkpoint], number: u32) -> Option<Checkpoint>
 
 // Where the message with this id stands in the log.
 pub fn logged_at(log: &[Logged], id: u32) -> Option<usize>
-    requires { ascending id_of log.now ≡ true }
+    requires { ascending nat_cmp id_of log.now ≡ true }
     ensures { LoggedAt log.now id result }
 {
     find(log, id).ok()

@@ -3,7 +3,8 @@
 use Rattle.std.proofs.Common.{◌≡◌, ℕ, zero, suc, ◌<◌, true, true≢false, ◌⊎◌, inl, inr, List, [], ◌∷◌, length, get_or, Ok, Err, Result, sym, refl, ap, ◌∙◌, subst, arith}
 use Rattle.std.specs.declared.cmp.Ordering.{Ordering}
 use Rattle.std.specs.declared.cmp.Ordering.TheVariants.{Less, Equal, Greater}
-use Rattle.std.specs.Ordering.{ordering_reverse, is_lt}
+use Rattle.std.specs.Ordering.{ordering_reverse, is_lt, nat_cmp}
+use Rattle.std.proofs.lemmas.Bool.Decides.{nat_tests}
 use Rattle.std.specs.Cmp.{IsTotalOrder}
 use Rattle.std.proofs.lemmas.Bool.{and_parts}
 use Rattle.std.specs.List.{AllWithin}
@@ -96,3 +97,10 @@ module _ {X K : Type 0} (cmp : K → K → Ordering) (key : X → K) where
     -- the same of an answer that is what `seek` gives
     pub sought_by : (xs : List X) (k : K) (r : Result ℕ ℕ) → r ≡ seek cmp key xs k → ascending cmp key xs ≡ true → Sought cmp key xs k r
     sought_by xs k r e up = subst (Sought cmp key xs k) (sym e) (sought xs k up)
+
+-- number keys: the tests of their order, as the order itself
+pub lt-below : (a b : ℕ) → a < b → is_lt (nat_cmp a b) ≡ true
+lt-below a b lt = grind (arith, nat_tests)
+
+pub below-lt : (a b : ℕ) → is_lt (nat_cmp a b) ≡ true → a < b
+below-lt a b e = grind (arith, nat_tests)

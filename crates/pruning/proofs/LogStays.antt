@@ -2,6 +2,7 @@
 use Rattle.std.proofs.Common.{◌≡◌, ℕ, ◌≤◌, Bool, true, not, ltb, List, [], ◌∷◌, length, get_or, filter, sym, refl, ap, ◌∙◌, arith}
 use Rattle.std.proofs.lemmas.List.{length-map}
 use Rattle.store.specs.Table.{both}
+use Rattle.std.specs.Ordering.{nat_cmp}
 use Rattle.ordered.specs.Seek.{ascending}
 use Rattle.law.specs.declared.Logged.{Logged}
 use Rattle.law.specs.Restarts.{undone, unreceived, log_back}
@@ -36,7 +37,7 @@ module _ (bs : List ℕ) (ms : List Logged) where
   abbrev needed : Logged → Bool
   needed m = received_from (get_or bs m.message.to 0) m.receipt
 
-  pub log_from_ascends : ascending id_of ms ≡ true → ascending id_of (log_from bs ms) ≡ true
+  pub log_from_ascends : ascending nat_cmp id_of ms ≡ true → ascending nat_cmp id_of (log_from bs ms) ≡ true
   log_from_ascends = ascending_kept id_of needed ms
 
   pub log_from_below : (next : ℕ) → ids_below next ms ≡ true → ids_below next (log_from bs ms) ≡ true
@@ -55,7 +56,7 @@ module _ (ps : List ℕ) (ms : List Logged) where
   abbrev left : List Logged
   left = filter done ms
 
-  pub log-back-ascends : ascending id_of ms ≡ true → ascending id_of (log_back ps ms) ≡ true
+  pub log-back-ascends : ascending nat_cmp id_of ms ≡ true → ascending nat_cmp id_of (log_back ps ms) ≡ true
   log-back-ascends up = ascending-map id_of (unreceived ps) (λ m. refl) left ∙ ascending_kept id_of done ms up
 
   pub log-back-below : (next : ℕ) → ids_below next ms ≡ true → ids_below next (log_back ps ms) ≡ true

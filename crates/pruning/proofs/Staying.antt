@@ -4,6 +4,7 @@ use Rattle.std.proofs.Common.{◌≡◌, ℕ, ◌≤◌, Bool, true, false, eqb,
 use Rattle.std.proofs.lemmas.Bool.{cond-true, cond-false, cond_both, cases_Bool, eqb-true, leb-true, ltb-true, lt-ltb, le-leb}
 use Rattle.store.specs.Table.{both}
 use Rattle.store.proofs.Orders.{both_true, both_from}
+use Rattle.std.specs.Ordering.{nat_cmp}
 use Rattle.ordered.specs.Seek.{ascending}
 use Rattle.law.specs.declared.Checkpoint.{Checkpoint}
 use Rattle.law.specs.declared.Round.{Round}
@@ -83,7 +84,7 @@ module _ (i : ℕ) (was new : Cluster) (p : Checkpoint → Bool) where
       record {
         room = omega arith;
         few = omega arith;
-        ascends = ap (λ (z : List Checkpoint). ascending number_of z) items ∙ ascending_kept number_of p (vec_items was.kept) s.ascends;
+        ascends = ap (λ (z : List Checkpoint). ascending nat_cmp number_of z) items ∙ ascending_kept number_of p (vec_items was.kept) s.ascends;
         topped = ap (topped i (entry new.row i)) items ∙ topped_kept i (entry was.row i) (entry new.row i) p (vec_items was.kept) low s.topped;
         ends = ends-lower (is_some new.round) (vec_len was.kept) (vec_len new.kept) (entry was.row i) (entry new.row i) fewer lower
             (ap (λ (z : Option Round). can_end (is_some z) (vec_len was.kept) (entry was.row i)) round ∙ s.ends);

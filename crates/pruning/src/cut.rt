@@ -1,5 +1,6 @@
 // Clusters cut one after another: each loses kept checkpoints, and the store their rows.
 ghost use Rattle.std.specs.Prelude.{◌≡◌, ℕ, ◌<◌, Bool, true, filter, vec_len, vec_capacity, nat_le, nat_lt, slice_index};
+ghost use Rattle.std.specs.Ordering.{nat_cmp};
 ghost use Rattle.ordered.specs.Seek.{ascending};
 ghost use Rattle.law.specs.Book.{Cluster as Group};
 ghost use Rattle.law.specs.Restarts.{back, discard, prune as pruned};
@@ -11,7 +12,7 @@ ghost use Rattle.pruning.specs.Cutting.{prune_at, row_back};
 use crate::{Back, Collect, entry};
 use book::{Book, Cluster, STAYS, checkpoint_at};
 use law::Checkpoint;
-use store::Store;
+use store::{RowKey, Store};
 
 // What a cut leaves of each cluster, and which checkpoints leave the store.
 pub trait Cut {
@@ -30,13 +31,14 @@ pub trait Cut {
 
 // Drops from the store the rows of the checkpoints that a cluster loses.
 fn discard_rows<C: Cut, S: Store>(store: &mut S, i: u8, checkpoints: &[Checkpoint], cut: &C)
-    requires { S.Store.sound store.old }
-    ensures after { S.Store.model store.new ≡ discard i (C.Cut.gone cut.now i) checkpoints.now (S.Store.model store.old) }
-    ensures sound { S.Store.sound store.new }
+    ensures { S.Store.model store.new ≡ discard i (C.Cut.gone cut.now i) checkpoints.now (S.Store.model store.old) }
 {
     for checkpoint in checkpoints {
         if cut.loses(i, checkpoint.number) {
-            let _ = store.discard(i, checkpoint.number);
+            let _ = store.discard(RowKey {
+                cluster: i,
+                number: checkpoint.number,
+            });
         }
     }
 }
@@ -59,7 +61,7 @@ fn keep_from(kept: &mut Vec<Checkpoint>, bound: u32)
 
 // The row of a cluster as it was at its place.
 fn row_back(cluster: &Cluster, place: u32) -> [u32; 8]
-    requires { ascending number_of cluster.now.kept.items ≡ true }
+    requires { ascending nat_cmp number_of cluster.now.kept.items ≡ true }
     ensures { result ≡ row_back place cluster.now.row cluster.now.kept.items }
 {
     if place == STAYS {
@@ -109,11 +111,9 @@ impl Cut for Collect {
 fn prune_cluster<C: Cut, S: Store>(book: &mut Book, store: &mut S, i: u8, cut: &C)
     requires within { i < vec_len book.old.clusters }
     requires sound { sound book.old ≡ true }
-    requires store_sound { S.Store.sound store.old }
     ensures after { view book.new (S.Store.model store.new) ≡ prune_at (C.Cut.change cut.now) (C.Cut.gone cut.now) i (view book.old (S.Store.model store.old)) }
     ensures len { vec_len book.new.clusters ≡ vec_len book.old.clusters }
     ensures sound { sound book.new ≡ true }
-    ensures store_sound { S.Store.sound store.new }
 {
     discard_rows(store, i, &book.clusters[i as usize].kept, cut);
     cut.change(i, &mut book.clusters[i as usize]);
@@ -121,11 +121,9 @@ fn prune_cluster<C: Cut, S: Store>(book: &mut Book, store: &mut S, i: u8, cut: &
 
 // Every cluster cut, the first one first.
 pub fn prune<C: Cut, S: Store>(book: &mut Book, store: &mut S, cut: &C)
-    requires sound { sound book.old ≡ true }
-    requires store_sound { S.Store.sound store.old }
+    requires { sound book.old ≡ true }
     ensures after { view book.new (S.Store.model store.new) ≡ pruned (C.Cut.change cut.now) (C.Cut.gone cut.now) (vec_len book.old.clusters) (view book.old (S.Store.model store.old)) }
     ensures sound { sound book.new ≡ true }
-    ensures store_sound { S.Store.sound store.new }
 {
     for i in 0..book.clusters.len() {
         prune_cluster(book, store, i as u8, cut);

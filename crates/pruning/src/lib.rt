@@ -37,22 +37,18 @@ fn entry(row: &[u32; 8], cluster: u8) -> u32
 
 // Every cluster back at its place: later checkpoints are gone from the book and the store, and the row is as it was there.
 pub fn back_to<S: Store>(book: &mut Book, store: &mut S, places: [u32; 8])
-    requires sound { sound book.old ≡ true }
-    requires store_sound { S.Store.sound store.old }
+    requires { sound book.old ≡ true }
     ensures after { view book.new (S.Store.model store.new) ≡ back_to places (vec_len book.old.clusters) (view book.old (S.Store.model store.old)) }
     ensures sound { sound book.new ≡ true }
-    ensures store_sound { S.Store.sound store.new }
 {
     cut::prune(book, store, &Back { places });
 }
 
 // Every cluster without its checkpoints below its bound, in the book and in the store.
 pub fn from_bounds<S: Store>(book: &mut Book, store: &mut S, bounds: [u32; 8])
-    requires sound { sound book.old ≡ true }
-    requires store_sound { S.Store.sound store.old }
+    requires { sound book.old ≡ true }
     ensures after { view book.new (S.Store.model store.new) ≡ from_bounds bounds (vec_len book.old.clusters) (view book.old (S.Store.model store.old)) }
     ensures sound { sound book.new ≡ true }
-    ensures store_sound { S.Store.sound store.new }
 {
     cut::prune(book, store, &Collect { bounds });
 }

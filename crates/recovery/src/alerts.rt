@@ -1,5 +1,6 @@
 // Carrying alerts: a cluster that heard of what is undone goes back before it, and alerts the others in turn.
 ghost use Rattle.std.specs.Prelude.{◌≡◌, ◌<◌, ◌≤◌, true, map, length, is_some, IfSome, None, nat_lt, position};
+ghost use Rattle.std.specs.Ordering.{nat_cmp};
 ghost use Rattle.ordered.specs.Seek.{ascending};
 ghost use Rattle.store.specs.Table.{both};
 ghost use Rattle.law.specs.Book.{entry};
@@ -15,7 +16,7 @@ use law::{Alerts, Checkpoint, Restart};
 // The cluster's entry for another, at its place: in its row, if it stays, else in the checkpoint there.
 fn entry_of(cluster: &Cluster, place: u32, from: usize) -> u32
     requires within { from < 8 }
-    requires ascends { ascending number_of cluster.now.kept.items ≡ true }
+    requires ascends { ascending nat_cmp number_of cluster.now.kept.items ≡ true }
     ensures { result ≡ entry_of (group cluster.now) place from }
 {
     if place == STAYS {
@@ -50,7 +51,7 @@ fn latest(kept: &[Checkpoint], from: usize, back: u32, place: u32) -> Option<u32
 // The checkpoint to which an alert from a cluster that went back calls this one, if it does.
 fn called_in(cluster: &Cluster, from: usize, back: u32, place: u32) -> Option<u32>
     requires within { from < 8 }
-    requires ascends { ascending number_of cluster.now.kept.items ≡ true }
+    requires ascends { ascending nat_cmp number_of cluster.now.kept.items ≡ true }
     ensures { result ≡ called_in (group cluster.now) from back place }
 {
     if back <= entry_of(cluster, place, from) {

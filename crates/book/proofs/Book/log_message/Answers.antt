@@ -1,4 +1,5 @@
 use Rattle.std.proofs.Common.{◌≡◌, ℕ, ◌+◌, true, List, [], ◌∷◌, ◌++◌, vec_items, vec_len, sym, refl, ap, ◌∙◌, subst, ap₂, add-one, arith}
+use Rattle.std.specs.Ordering.{nat_cmp}
 use Rattle.ordered.specs.Seek.{ascending}
 use Rattle.law.specs.declared.Logged.{Logged}
 use Rattle.law.specs.Book.{Cluster as Group, with_log, with_next_id, entry, number}
@@ -56,7 +57,7 @@ returns c =
       after = λ m. ap₂ (λ (l : List Logged) (k : ℕ). with_next_id (with_log (view b m) l) k)
           (items ∙ ap (λ (k : ℕ). log ++ (undelivered next from to word k ∷ [])) (n-is ∙ ap (λ (t : ℕ). number (view b m) t) i-is)) (add-one next);
       sound = sound-log b _ c.requires.sound refl refl (omega arith) (omega arith)
-          (subst (λ (l : List Logged). ascending id_of l ≡ true) (sym items) (ascending_push id_of log new s.ascends (ids_below_lem next log s.below)))
+          (subst (λ (l : List Logged). ascending nat_cmp id_of l ≡ true) (sym items) (ascending_push id_of log new s.ascends (ids_below_lem next log s.below)))
           (subst (λ (l : List Logged). ids_below (next + 1) l ≡ true) (sym items) (ids_push (next + 1) next log new s.below refl (omega arith)))
           (subst (λ (l : List Logged). addressed (vec_len b.clusters) l ≡ true) (sym items) (addressed_push (vec_len b.clusters) log new s.addressed c.requires.addressed));
     }

@@ -1,5 +1,6 @@
 use Rattle.std.proofs.Common.{ℕ, List, length, None, vec_items, vec_len, sym, ap, ◌∙◌, subst, ap₂, arith}
 use Rattle.std.proofs.lemmas.List.{length-map}
+use Rattle.std.specs.Ordering.{nat_cmp}
 use Rattle.ordered.specs.Seek.{ascending}
 use Rattle.law.specs.declared.Logged.{Logged}
 use Rattle.law.specs.Book.{Cluster as Group}
@@ -29,7 +30,7 @@ returns c =
             nodes = c.requires.nodes;
             room = omega arith;
             short = omega arith;
-            ascends = ap (ascending id_of) none;
+            ascends = ap (ascending nat_cmp id_of) none;
             below = ap (ids_below 1) none;
             addressed = ap (addressed (vec_len cs)) none;
             clusters = λ i x h e. subst (λ (z : ℕ). ClusterSound z x) (omega arith) (each_sound 0 (vec_items cs) made.1 i x (omega arith) e);

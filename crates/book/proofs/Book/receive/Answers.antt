@@ -1,5 +1,6 @@
 use Rattle.std.proofs.Common.{◌≡◌, ◌<◌, true, List, map, length, get_or, set, Some, vec_items, vec_len, sym, refl, ap, ◌∙◌, subst, arith}
 use Rattle.std.proofs.lemmas.List.{get_or_read}
+use Rattle.std.specs.Ordering.{nat_cmp}
 use Rattle.ordered.specs.Seek.{ascending}
 use Rattle.law.specs.declared.Logged.{Logged}
 use Rattle.law.specs.Book.{with_log}
@@ -29,7 +30,7 @@ returns c =
     record {
       after = λ m. ap (with_log (view b m)) is;
       sound = sound-log b _ c.requires.sound refl refl s.room s.short
-          (subst (λ (l : List Logged). ascending id_of l ≡ true) (sym is) (ascending_same f same log ∙ s.ascends))
+          (subst (λ (l : List Logged). ascending nat_cmp id_of l ≡ true) (sym is) (ascending_same f same log ∙ s.ascends))
           (subst (λ (l : List Logged). ids_below b.next_id l ≡ true) (sym is) (below_same f same b.next_id log ∙ s.below))
           (subst (λ (l : List Logged). addressed (vec_len b.clusters) l ≡ true) (sym is) (addressed_same f same (vec_len b.clusters) log ∙ s.addressed));
     }

@@ -4,6 +4,7 @@ use Rattle.std.proofs.lemmas.List.{get_or-set_same}
 use Rattle.law.specs.declared.Checkpoint.{Checkpoint}
 use Rattle.law.specs.Book.{Cluster as Group, entry}
 use Rattle.std.specs.List.{AllByRecursion as All}
+use Rattle.std.specs.Ordering.{nat_cmp}
 use Rattle.ordered.specs.Seek.{ascending}
 use Rattle.book.specs.Sound.{number_of, topped}
 use Rattle.book.proofs.Soundness.{cluster_is_sound, sound-cluster}
@@ -45,7 +46,7 @@ returns c =
           (record {
             room = omega arith;
             few = omega arith;
-            ascends = subst (λ (ks : List Checkpoint). ascending number_of ks ≡ true) (sym items) (ascending_push number_of (vec_items was.kept) new s.ascends (subst (λ (k : ℕ). All (λ x. number_of x < k) (vec_items was.kept)) (sym (add-one n)) (topped-below own n (vec_items was.kept) s.topped)));
+            ascends = subst (λ (ks : List Checkpoint). ascending nat_cmp number_of ks ≡ true) (sym items) (ascending_push number_of (vec_items was.kept) new s.ascends (subst (λ (k : ℕ). All (λ x. number_of x < k) (vec_items was.kept)) (sym (add-one n)) (topped-below own n (vec_items was.kept) s.topped)));
             topped = subst (λ (ks : List Checkpoint). topped own (entry row own) ks ≡ true) (sym items) (topped_push own n (entry row own) (vec_items was.kept) new s.topped (omega arith) refl (sym own-entry));
             ends = refl;
           });

@@ -2,6 +2,7 @@
 use Rattle.std.proofs.Common.{◌≡◌, true, List, [], ◌∷◌, ◌++◌, replicate, None, vec_items, sym, refl, ap, ◌∙◌, subst, arith}
 use Rattle.std.proofs.lemmas.List.{get_or-set_same}
 use Rattle.std.proofs.lemmas.Bool.{eq-eqb, le-leb}
+use Rattle.std.specs.Ordering.{nat_cmp}
 use Rattle.ordered.specs.Seek.{ascending}
 use Rattle.law.specs.declared.Checkpoint.{Checkpoint}
 use Rattle.law.specs.Book.{Cluster as Group, entry}
@@ -28,7 +29,7 @@ returns c =
           (record {
             room = omega arith;
             few = omega arith;
-            ascends = subst (λ (ks : List Checkpoint). ascending number_of ks ≡ true) (sym items) refl;
+            ascends = subst (λ (ks : List Checkpoint). ascending nat_cmp number_of ks ≡ true) (sym items) refl;
             topped = subst (λ (ks : List Checkpoint). topped own (entry row own) ks ≡ true) (sym items) tops;
             ends = refl;
           }),

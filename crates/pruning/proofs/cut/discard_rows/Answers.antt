@@ -15,21 +15,12 @@ loop-checkpoint-preserved g c =
     let was = g.S.Store.model c.loop-checkpoint.store in
     let h = c.loop-checkpoint-test.true in
     elim c.if-loses.branch [
-      | then-loses w ↦ rw w.store-is (
-        w.discard.ensures.sound,
-        discard_more c.args.i gone cs at _ was h (sym c.loses.ensures ∙ w.if-loses.true) _ w.discard.ensures.after ∙ c.loop-checkpoint.invariant.1,
-      )
-      | else-loses w ↦ rw w.store-is (
-        c.loop-checkpoint.invariant.0,
-        discard_same c.args.i gone cs at _ was h (sym c.loses.ensures ∙ w.if-loses.false) ∙ c.loop-checkpoint.invariant.1,
-      )
+      | then-loses w ↦ rw w.store-is (discard_more c.args.i gone cs at _ was h (sym c.loses.ensures ∙ w.if-loses.true) _ w.discard.ensures.after ∙ c.loop-checkpoint.invariant)
+      | else-loses w ↦ rw w.store-is (discard_same c.args.i gone cs at _ was h (sym c.loses.ensures ∙ w.if-loses.false) ∙ c.loop-checkpoint.invariant)
     ]
 
 pub returns : goal.returns
 returns g c =
     let gone = g.C.Cut.gone c.args.cut.now c.args.i in
     let was = g.S.Store.model c.loop-checkpoint.store in
-    record {
-      after = sym (at_drop_all (λ (xs : List Checkpoint). discard c.args.i gone xs was) c.args.checkpoints.now c.loop-checkpoint.checkpoint-index c.loop-checkpoint-test.false) ∙ c.loop-checkpoint.invariant.1;
-      sound = c.loop-checkpoint.invariant.0;
-    }
+    sym (at_drop_all (λ (xs : List Checkpoint). discard c.args.i gone xs was) c.args.checkpoints.now c.loop-checkpoint.checkpoint-index c.loop-checkpoint-test.false) ∙ c.loop-checkpoint.invariant

@@ -8,7 +8,7 @@ use Rattle.pruning.proofs.cut.prune.Goals as goal
 
 pub overflow_cast-i : goal.overflow_cast-i
 overflow_cast-i g c =
-    let few = (is_sound_lem c.args.book.now c.requires.sound).few in
+    let few = (is_sound_lem c.args.book.now c.requires).few in
     omega arith
 
 pub loop-i-preserved : goal.loop-i-preserved
@@ -21,7 +21,6 @@ loop-i-preserved g c =
       done.after ∙ ap (prune_at change gone c.loop-i.i) inv.0 ∙ ap (λ (z : ℕ). prune change gone z first) (sym (add-one c.loop-i.i)),
       done.len ∙ inv.1,
       done.sound,
-      done.store_sound,
     )
 
 pub returns : goal.returns
@@ -33,5 +32,4 @@ returns g c =
     record {
       after = c.loop-i.invariant.0 ∙ ap (λ (z : ℕ). prune change gone z first) all;
       sound = c.loop-i.invariant.2;
-      store_sound = c.loop-i.invariant.3;
     }

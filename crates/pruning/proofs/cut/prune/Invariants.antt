@@ -11,4 +11,3 @@ invariant-loop-i g l =
     ≡ prune (g.C.Cut.change l.cut) (g.C.Cut.gone l.cut) l.i (view l.initial.book (g.S.Store.model l.initial.store)))
     × (vec_len l.book.clusters ≡ vec_len l.initial.book.clusters)
     × (sound l.book ≡ true)
-    × g.S.Store.sound l.store

@@ -28,8 +28,7 @@ returns g c =
     let m = g.S.Store.model c.args.store.now in
     record {
       after = prune-shown (g.C.Cut.change c.args.cut.now) gone b m i was new c.requires.within c.index_mut.ensures.value c.change.ensures.after
-          (g.S.Store.model c.discard_rows.new.store) (c.discard_rows.ensures.after ∙ ap (λ (z : List Checkpoint). discard i (gone i) z m) rows);
+          (g.S.Store.model c.discard_rows.new.store) (c.discard_rows.ensures ∙ ap (λ (z : List Checkpoint). discard i (gone i) z m) rows);
       len = refl;
       sound = sound_with b _ i new c.requires.sound refl refl refl refl refl c.change.ensures.sound;
-      store_sound = c.discard_rows.ensures.sound;
     }
