@@ -12,7 +12,8 @@ use Rattle.records.specs.Encode.{keep_bytes, rows_bytes}
 use Rattle.records.specs.Layout.{size_of, part, parts, row_from, row_in, relaid, total, Laid}
 use Rattle.records.specs.Order.{held_key, first_of}
 use Rattle.records.proofs.Compacting.{laid_bound}
-use Rattle.journal.specs.State.{Lie, Few}
+use Rattle.records.proofs.Ordering.{first_of_next}
+use Rattle.journal.specs.Places.{Lie, Few}
 
 part_front : (bs more : List ℕ) (h : Held) → h.at + size_of h.count ≤ length bs → part (bs ++ more) h ≡ part bs h
 part_front bs more h within =
@@ -156,9 +157,10 @@ first_next bs h hs c n (Some i) f s =
 pub first_held : (bs : List ℕ) (hs : List Held) (c n : ℕ) → FirstHeld bs hs c n (first_of hs c n)
 first_held bs [] c n = refl
 first_held bs (h ∷ hs) c n =
-    cond_both (same c n (held_key h)) _ _ (FirstHeld bs (h ∷ hs) c n)
+    subst (FirstHeld bs (h ∷ hs) c n) (sym (first_of_next h hs c n))
+    (cond_both (same c n (held_key h)) _ _ (FirstHeld bs (h ∷ hs) c n)
     (λ t. (omega arith, (λ d. cond-true _ _ _ t), cond-true _ _ _ t))
-    (λ f. first_next bs h hs c n (first_of hs c n) f (first_held bs hs c n))
+    (λ f. first_next bs h hs c n (first_of hs c n) f (first_held bs hs c n)))
 
 -- the same of a search over the records as a slice
 pub first_in : (bs : List ℕ) (hs slice : List Held) (c n : ℕ) (r : Option ℕ) → slice ≡ hs → r ≡ first_of slice c n → FirstHeld bs hs c n r

@@ -8,7 +8,7 @@ use Rattle.store.specs.Formed.{leads, rising}
 use Rattle.store.proofs.Orders.{both_true, under_own}
 use Rattle.store.proofs.Tables.{leads_on, none_parts, rising-insert, length-insert, remove_none}
 use Rattle.records.specs.Order.{sort_onto, sort_rows}
-use Rattle.journal.specs.State.{Distinct}
+use Rattle.journal.specs.Places.{Distinct}
 
 -- a row's own cluster and number are those it stands under
 lookup-under : (rows : List TableRow) (row : TableRow) (c n : ℕ) → under c n row ≡ true → lookup rows row.cluster row.number ≡ lookup rows c n

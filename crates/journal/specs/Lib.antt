@@ -1,1 +1,3 @@
+pub mod Make
+pub mod Places
 pub mod State

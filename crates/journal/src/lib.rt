@@ -2,12 +2,7 @@
 // when one does not fit, only the records of the rows that are held stay, oldest first.
 #![tactic(auto)]
 
-ghost use Rattle.std.specs.Prelude.{◌≡◌, ◌+◌, ◌*◌, ◌≤◌, [], ◌∷◌, ◌++◌, length, is_some, IfSome, if◌then◌else◌, Some, None, MatchResult, nat_eq, nat_le};
-ghost use Rattle.std.specs.Option.{option_map};
-ghost use Rattle.store.specs.Table.{lookup, remove, row_at, keep_refusal, keep_model, drop_refusal, drop_model, answered, told, unless, over, read_refused};
-ghost use Rattle.records.specs.Encode.{keep_bytes, drop_bytes, rows_bytes};
-ghost use Rattle.records.specs.Layout.{size_of, row_in};
-ghost use Rattle.journal.specs.State.{records_of, rows_of, journal_model, keep_records, drop_records, JournalSound};
+ghost use Rattle.journal.specs.Places.{Sound, sound_prop};
 
 use records::{
     Held, compact, first_of, insert_ordered, read_words, reindex, write_drop, write_keep,
@@ -15,6 +10,10 @@ use records::{
 use refusal::StoreRefusal;
 use std::alloc::Global;
 use store::{MOST_WORDS, RowKey, Store, key_at};
+
+mod make;
+
+pub use make::MakeRefusal;
 
 // As many rows as slots hold, and just the bytes for that many records of 32 words.
 pub const CAPACITY: usize = 64;
@@ -30,100 +29,76 @@ pub struct Journal<'a> {
     held: Vec<Held>,
     // the same records in order of cluster, then number
     index: Vec<Held>,
-}
-
-// Why a journal was not made.
-#[derive(Clone, Copy, PartialEq, Eq, Debug)]
-pub enum MakeRefusal {
-    Size,
-    Memory,
+    ghost sound: { Sound bytes.now used held index } by { sound_prop bytes.now used held index },
 }
 
 impl<'a> Journal<'a> {
+    ghost use Rattle.std.specs.Prelude.{◌≡◌, ◌+◌, ◌*◌, ◌<◌, ◌≤◌, [], ◌∷◌, ◌++◌, length, IfSome, if◌then◌else◌, Some, None, MatchResult, nat_eq, nat_le};
+    ghost use Rattle.std.specs.Option.{option_map};
+    ghost use Rattle.store.specs.Table.{lookup, remove, keep_refusal, keep_model, drop_refusal, drop_model, answered, told, unless, over, read_refused};
+    ghost use Rattle.records.specs.Encode.{keep_bytes, drop_bytes, rows_bytes};
+    ghost use Rattle.records.specs.Layout.{size_of, row_in};
+    ghost use Rattle.journal.specs.State.{records_of, rows_of, journal_model, keep_records, drop_records};
+
     pub fn new(heap: Global, bytes: &'a mut [u8]) -> Result<Journal<'a>, MakeRefusal>
-        ensures { MatchResult result (λ j. (records_of j ≡ []) × (journal_model j ≡ record { table = []; capacity = 64; full = 0 }) × JournalSound j) (λ why. why ≡ (if nat_eq (length bytes.old) 16832 then MakeRefusal.Memory else MakeRefusal.Size)) }
+        ensures { MatchResult result (λ j. (records_of j ≡ []) × (journal_model j ≡ record { table = []; capacity = 64; full = 0 })) (λ why. why ≡ (if nat_eq (length bytes.old) 16832 then MakeRefusal.Memory else MakeRefusal.Size)) }
     {
         if bytes.len() != SIZE {
             return Err(MakeRefusal::Size);
         }
-        let Ok(held) = Vec::with_capacity(heap, CAPACITY) else {
-            return Err(MakeRefusal::Memory);
-        };
-        let Ok(index) = Vec::with_capacity(heap, CAPACITY) else {
-            return Err(MakeRefusal::Memory);
-        };
         Ok(Journal {
             bytes,
             used: 0,
-            held,
-            index,
+            held: Vec::with_capacity(heap, CAPACITY)?,
+            index: Vec::with_capacity(heap, CAPACITY)?,
         })
     }
 
     // The record of a row that is held.
     fn find(&self, cluster: u8, number: u32) -> Option<Held>
-        requires { JournalSound self.now }
         ensures held { lookup (journal_model self.now).table cluster number ≡ option_map (λ h. (row_in (records_of self.now) h).words) result }
         ensures within { IfSome result (λ h. h.at + size_of h.count ≤ self.now.used) }
     {
-        match first_of(self.held.as_slice(), cluster, number) {
-            Some(i) => Some(self.held[i]),
-            None => None,
-        }
+        let i = first_of(self.held.as_slice(), cluster, number)?;
+        Some(self.held[i])
     }
 
-    fn rows(&self) -> usize
-        ensures { result ≡ length (journal_model self.now).table }
-    {
-        self.held.len()
-    }
-
-    fn key_at(&self, at: usize) -> Option<RowKey>
-        requires { JournalSound self.now }
-        ensures { result ≡ row_at (journal_model self.now).table at }
-    {
-        key_at(self.index.as_slice(), at)
-    }
-
-    fn keep_refusal(&self, cluster: u8, number: u32, words: &[u64]) -> Option<StoreRefusal>
-        requires { JournalSound self.now }
-        ensures { result ≡ keep_refusal (journal_model self.now) cluster number words.now }
+    // Refuses what `keep` refuses.
+    fn check_keep(&self, cluster: u8, number: u32, words: &[u64]) -> Result<(), StoreRefusal>
+        ensures { result ≡ answered (keep_refusal (journal_model self.now) cluster number words.now) }
     {
         if words.is_empty() || words.len() > MOST_WORDS {
-            return Some(StoreRefusal::WordCount);
+            return Err(StoreRefusal::WordCount);
         }
         if self.find(cluster, number).is_some() {
-            return Some(StoreRefusal::Held);
+            return Err(StoreRefusal::Held);
         }
         if self.count() >= CAPACITY {
-            return Some(StoreRefusal::Full(0));
+            return Err(StoreRefusal::Full(0));
         }
-        None
+        Ok(())
     }
 
     // Copies the words of a record to the front of a buffer, and tells how many they are.
-    fn copy_out(&self, record: Held, buffer: &mut [u64]) -> Result<usize, StoreRefusal>
-        requires sound { JournalSound self.now }
-        requires within { «record».at + size_of «record».count ≤ self.now.used }
-        ensures answer { result ≡ told (read_refused (Some (row_in (records_of self.now) «record»).words) (length buffer.old)) (length (row_in (records_of self.now) «record»).words) }
-        ensures buffer { buffer.new ≡ unless (read_refused (Some (row_in (records_of self.now) «record»).words) (length buffer.old)) buffer.old (over (row_in (records_of self.now) «record»).words buffer.old) }
+    fn copy_out(&self, place: Held, buffer: &mut [u64]) -> Result<usize, StoreRefusal>
+        requires { place.at + size_of place.count ≤ self.now.used }
+        ensures answer { result ≡ told (read_refused (Some (row_in (records_of self.now) place).words) (length buffer.old)) (length (row_in (records_of self.now) place).words) }
+        ensures buffer { buffer.new ≡ unless (read_refused (Some (row_in (records_of self.now) place).words) (length buffer.old)) buffer.old (over (row_in (records_of self.now) place).words buffer.old) }
     {
-        let count = record.count;
+        let count = place.count;
         if count > buffer.len() {
             return Err(StoreRefusal::WordCount);
         }
-        let from = record.at + 7;
+        let from = place.at + 7;
         read_words(&self.bytes[from..from + 8 * count], count, buffer);
         Ok(count)
     }
 
     // Keeps only the records of the rows that are held, oldest first.
     fn squeeze(&mut self)
-        requires { JournalSound self.old }
         ensures records { records_of self.new ≡ rows_bytes (rows_of self.old) }
         ensures rows { rows_of self.new ≡ rows_of self.old }
         ensures small { self.new.used ≤ 263 * length (rows_of self.old) }
-        ensures sound { JournalSound self.new }
     {
         let Journal {
             bytes,
@@ -135,14 +110,33 @@ impl<'a> Journal<'a> {
         reindex(held.as_slice(), index);
     }
 
+    // Whether so many bytes fit behind the records; one that ends at the last byte does.
+    fn fits(&self, size: usize) -> bool
+        requires { size ≤ 263 }
+        ensures { result ≡ nat_le (self.now.used + size) 16832 }
+    {
+        self.used + size <= SIZE
+    }
+
+    // Makes so many bytes free behind the records.
+    fn make_room(&mut self, size: usize)
+        requires small { size ≤ 263 }
+        requires few { length (rows_of self.old) < 64 }
+        ensures records { records_of self.new ≡ (if nat_le (self.old.used + size) 16832 then records_of self.old else rows_bytes (rows_of self.old)) }
+        ensures rows { rows_of self.new ≡ rows_of self.old }
+        ensures room { self.new.used + size ≤ 16832 }
+    {
+        if !self.fits(size) {
+            self.squeeze();
+        }
+    }
+
     // Writes the record of a row behind the others.
     fn append(&mut self, cluster: u8, number: u32, words: &[u64])
-        requires sound { JournalSound self.old }
         requires free { keep_refusal (journal_model self.old) cluster number words.now ≡ None }
         requires room { self.old.used + size_of (length words.now) ≤ 16832 }
         ensures records { records_of self.new ≡ records_of self.old ++ keep_bytes (record { cluster = cluster; number = number; words = words.now }) }
         ensures rows { rows_of self.new ≡ rows_of self.old ++ record { cluster = cluster; number = number; words = words.now } ∷ [] }
-        ensures sound { JournalSound self.new }
     {
         let Journal {
             bytes,
@@ -150,129 +144,75 @@ impl<'a> Journal<'a> {
             held,
             index,
         } = self;
-        let record = Held {
+        let new = Held {
             cluster,
             number,
             at: *used,
             count: words.len(),
         };
         *used = write_keep(bytes, *used, cluster, number, words);
-        held.push_reserved(record);
-        insert_ordered(index, record);
+        held.push_reserved(new);
+        insert_ordered(index, new);
     }
 
-    // Forgets a row, and leaves its record where it is. Tells whether the row was held.
-    fn forget(&mut self, cluster: u8, number: u32) -> bool
-        requires { JournalSound self.old }
-        ensures held { result ≡ is_some (lookup (journal_model self.old).table cluster number) }
+    // Forgets a row, and leaves its record where it is.
+    fn forget(&mut self, cluster: u8, number: u32) -> Result<(), StoreRefusal>
+        ensures answer { result ≡ answered (drop_refusal (journal_model self.old) cluster number) }
         ensures records { records_of self.new ≡ records_of self.old }
         ensures rows { rows_of self.new ≡ remove (rows_of self.old) cluster number }
-        ensures sound { JournalSound self.new }
     {
-        match first_of(self.held.as_slice(), cluster, number) {
-            Some(i) => {
-                self.held.remove(i);
-                reindex(self.held.as_slice(), &mut self.index);
-                true
-            }
-            None => false,
-        }
+        let Some(i) = first_of(self.held.as_slice(), cluster, number) else {
+            return Err(StoreRefusal::NotHeld);
+        };
+        self.held.remove(i);
+        reindex(self.held.as_slice(), &mut self.index);
+        Ok(())
     }
 
     // Writes behind the other records that a row was dropped.
     fn note_drop(&mut self, cluster: u8, number: u32)
-        requires sound { JournalSound self.old }
-        requires room { self.old.used + 6 ≤ 16832 }
+        requires { self.old.used + 6 ≤ 16832 }
         ensures records { records_of self.new ≡ records_of self.old ++ drop_bytes cluster number }
         ensures rows { rows_of self.new ≡ rows_of self.old }
-        ensures sound { JournalSound self.new }
     {
         let used = self.used;
         self.used = write_drop(self.bytes, used, cluster, number);
     }
 
-    // Whether so many bytes fit behind the records; one that ends at the last byte does.
-    fn fits(&self, size: usize) -> bool
-        requires sound { JournalSound self.now }
-        requires small { size ≤ 263 }
-        ensures { result ≡ nat_le (self.now.used + size) 16832 }
-    {
-        self.used + size <= SIZE
-    }
-
-    fn put(&mut self, cluster: u8, number: u32, words: &[u64])
-        requires sound { JournalSound self.old }
-        requires free { keep_refusal (journal_model self.old) cluster number words.now ≡ None }
-        ensures after { journal_model self.new ≡ keep_model (journal_model self.old) cluster number words.now }
-        ensures records { records_of self.new ≡ keep_records (records_of self.old) (rows_of self.old) (record { cluster = cluster; number = number; words = words.now }) }
-        ensures rows { rows_of self.new ≡ rows_of self.old ++ record { cluster = cluster; number = number; words = words.now } ∷ [] }
-        ensures sound { JournalSound self.new }
-    {
-        if self.fits(7 + 8 * words.len()) {
-            self.append(cluster, number, words);
-        } else {
-            self.squeeze();
-            self.append(cluster, number, words);
-        }
-    }
-
-    // Tells whether the row was held.
-    fn take_out(&mut self, cluster: u8, number: u32) -> bool
-        requires { JournalSound self.old }
-        ensures held { result ≡ is_some (lookup (journal_model self.old).table cluster number) }
-        ensures after { journal_model self.new ≡ drop_model (journal_model self.old) cluster number }
-        ensures records { records_of self.new ≡ (if result then drop_records (records_of self.old) (rows_of self.old) cluster number else records_of self.old) }
-        ensures rows { rows_of self.new ≡ remove (rows_of self.old) cluster number }
-        ensures sound { JournalSound self.new }
-    {
-        if !self.forget(cluster, number) {
-            return false;
-        }
-        if self.fits(6) {
-            self.note_drop(cluster, number);
-        } else {
-            self.squeeze();
-        }
-        true
-    }
-
     // Keeps a row, as `keep` does, and says which records there are then.
     pub fn keep_row(&mut self, cluster: u8, number: u32, words: &[u64]) -> Result<(), StoreRefusal>
-        requires { JournalSound self.old }
         ensures answer { result ≡ answered (keep_refusal (journal_model self.old) cluster number words.now) }
         ensures after { journal_model self.new ≡ keep_model (journal_model self.old) cluster number words.now }
         ensures records { records_of self.new ≡ unless (keep_refusal (journal_model self.old) cluster number words.now) (records_of self.old) (keep_records (records_of self.old) (rows_of self.old) (record { cluster = cluster; number = number; words = words.now })) }
         ensures rows { rows_of self.new ≡ unless (keep_refusal (journal_model self.old) cluster number words.now) (rows_of self.old) (rows_of self.old ++ record { cluster = cluster; number = number; words = words.now } ∷ []) }
-        ensures sound { JournalSound self.new }
     {
-        if let Some(why) = self.keep_refusal(cluster, number, words) {
-            return Err(why);
-        }
-        self.put(cluster, number, words);
+        self.check_keep(cluster, number, words)?;
+        self.make_room(7 + 8 * words.len());
+        self.append(cluster, number, words);
         Ok(())
     }
 
     // Drops a row, as `discard` does, and says which records there are then.
     pub fn drop_row(&mut self, cluster: u8, number: u32) -> Result<(), StoreRefusal>
-        requires { JournalSound self.old }
         ensures answer { result ≡ answered (drop_refusal (journal_model self.old) cluster number) }
         ensures after { journal_model self.new ≡ drop_model (journal_model self.old) cluster number }
         ensures records { records_of self.new ≡ unless (drop_refusal (journal_model self.old) cluster number) (records_of self.old) (drop_records (records_of self.old) (rows_of self.old) cluster number) }
         ensures rows { rows_of self.new ≡ remove (rows_of self.old) cluster number }
-        ensures sound { JournalSound self.new }
     {
-        if self.take_out(cluster, number) {
-            Ok(())
+        self.forget(cluster, number)?;
+        if self.fits(6) {
+            self.note_drop(cluster, number);
         } else {
-            Err(StoreRefusal::NotHeld)
+            self.squeeze();
         }
+        Ok(())
     }
 }
 
 impl<'a> Store for Journal<'a> {
-    ghost model = { journal_model };
+    ghost use Rattle.journal.specs.State.{journal_model};
 
-    ghost sound = { JournalSound };
+    ghost model = { journal_model };
 
     fn keep(&mut self, cluster: u8, number: u32, words: &[u64]) -> Result<(), StoreRefusal> {
         self.keep_row(cluster, number, words)
@@ -283,14 +223,12 @@ impl<'a> Store for Journal<'a> {
     }
 
     fn read(&self, cluster: u8, number: u32, buffer: &mut [u64]) -> Result<usize, StoreRefusal> {
-        match self.find(cluster, number) {
-            Some(record) => self.copy_out(record, buffer),
-            None => Err(StoreRefusal::NotHeld),
-        }
+        let place = self.find(cluster, number).ok_or(StoreRefusal::NotHeld)?;
+        self.copy_out(place, buffer)
     }
 
     fn count(&self) -> usize {
-        self.rows()
+        self.held.len()
     }
 
     fn capacity(&self) -> usize {
@@ -298,6 +236,6 @@ impl<'a> Store for Journal<'a> {
     }
 
     fn position(&self, at: usize) -> Result<RowKey, StoreRefusal> {
-        self.key_at(at).ok_or(StoreRefusal::WordCount)
+        key_at(self.index.as_slice(), at).ok_or(StoreRefusal::WordCount)
     }
 }

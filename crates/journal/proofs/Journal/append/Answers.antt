@@ -1,35 +1,32 @@
 -- there is memory for one more, since fewer than 64 rows are held
 use Rattle.std.proofs.Common.{arith}
-use borrow.Rule.Slice.Mut.{set_vals}
-use Rattle.store.proofs.Tables.{allowed}
-use Rattle.journal.specs.declared.Journal.{Journal}
-use Rattle.journal.specs.State.{journal_model}
-use Rattle.journal.proofs.Steps.{append_step, held_rows, index_count}
+use Rattle.journal.proofs.Steps.{append_step, few_rows, held_count, index_count}
 use Rattle.journal.proofs.Journal.append.Goals as goal
 
 pub push_reserved-requires : goal.push_reserved-requires
 push_reserved-requires c =
     let j = c.args.self.now in
-    let may = allowed (journal_model j) c.args.cluster c.args.number c.args.words.now c.requires.free in
-    omega (arith, may.room, held_rows j, c.requires.sound.held_room)
+    omega (arith, few_rows j c.args.cluster c.args.number c.args.words.now c.requires.free, held_count j, j.sound.held_room)
 
 pub insert_ordered-requires : goal.insert_ordered-requires
 insert_ordered-requires c =
     let j = c.args.self.now in
-    let may = allowed (journal_model j) c.args.cluster c.args.number c.args.words.now c.requires.free in
-    omega (arith, may.room, held_rows j, index_count j c.requires.sound, c.requires.sound.index_room)
+    omega (arith, few_rows j c.args.cluster c.args.number c.args.words.now c.requires.free, held_count j, index_count j, j.sound.index_room)
 
-pub returns : goal.returns
-returns c =
-    let j = c.args.self.now in
-    let t : Journal = record {
-      bytes = set_vals c.write_keep.new.bytes j.bytes;
-      used = c.write_keep.result;
-      held = c.push_reserved.new.self;
-      index = c.insert_ordered.new.index;
-    } in
-    let front = c.write_keep.ensures.front in
-    let step = append_step j t c.args.cluster c.args.number c.args.words.now c.requires.sound c.requires.free
-    c.write_keep.auto.bytes c.write_keep.ensures.end c.requires.room front c.write_keep.ensures.reads
-    c.push_reserved.ensures.items (omega (arith, c.push_reserved.ensures.capacity)) c.insert_ordered.ensures.rows c.insert_ordered.ensures.capacity in
-    record { records = front; rows = step.0; sound = step.1 }
+pub invariant_of-self : goal.invariant_of-self
+invariant_of-self c =
+    let told = c.write_keep.ensures in
+    let pushed = c.push_reserved.ensures in
+    let shown = c.insert_ordered.ensures in
+    record {
+      sound = (append_step c.args.self.now c.push_reserved.new.self c.insert_ordered.new.index c.args.cluster c.args.number c.args.words.now c.requires.free c.write_keep.auto.bytes told.end (omega (arith, told.end, c.requires.room)) told.front told.reads
+          pushed.items (omega (arith, pushed.capacity)) shown.rows shown.capacity).1;
+    }
+
+pub returns-clause-rows : goal.returns-clause-rows
+returns-clause-rows c =
+    let told = c.write_keep.ensures in
+    let pushed = c.push_reserved.ensures in
+    let shown = c.insert_ordered.ensures in
+    (append_step c.args.self.now c.push_reserved.new.self c.insert_ordered.new.index c.args.cluster c.args.number c.args.words.now c.requires.free c.write_keep.auto.bytes told.end (omega (arith, told.end, c.requires.room)) told.front told.reads
+    pushed.items (omega (arith, pushed.capacity)) shown.rows shown.capacity).0

@@ -11,10 +11,10 @@ use Rattle.journal.proofs.Journal.copy_out.Goals as goal
 
 pub returns-then-count-buffer : goal.returns-then-count-buffer
 returns-then-count-buffer c =
-    let ws = (row_in (records_of c.args.self.now) c.args.record).words in
+    let ws = (row_in (records_of c.args.self.now) c.args.place).words in
     let b = c.args.buffer.now in
-    let long : length ws ≡ c.args.record.count = length-words_in c.args.record.count _ in
-    let short = short-read ws c.args.record.count (length b) long (omega arith) in
+    let long : length ws ≡ c.args.place.count = length-words_in c.args.place.count _ in
+    let short = short-read ws c.args.place.count (length b) long (omega arith) in
     record {
       answer = sym (ap (λ (why : Option StoreRefusal). told why (length ws)) short);
       buffer = sym (ap (λ (why : Option StoreRefusal). unless why b (over ws b)) short);
@@ -22,15 +22,15 @@ returns-then-count-buffer c =
 
 pub returns : goal.returns
 returns c =
-    let h = c.args.record in
+    let h = c.args.place in
     let bytes = c.args.self.now.bytes.now in
     let ws = (row_in (records_of c.args.self.now) h).words in
     let b = c.args.buffer.now in
     let long : length ws ≡ h.count = length-words_in h.count _ in
     let fits = fits_read ws h.count (length b) long (omega arith) in
-    let size = c.requires.sound.size in
-    let low = c.requires.sound.used in
-    let there = words_there bytes c.args.self.now.used h.at h.count _ c.requires.within (omega arith) (omega arith) in
+    let size = c.args.self.now.sound.size in
+    let low = c.args.self.now.sound.used in
+    let there = words_there bytes c.args.self.now.used h.at h.count _ c.requires (omega arith) (omega arith) in
     record {
       answer = ap Ok (sym long) ∙ sym (ap (λ (why : Option StoreRefusal). told why (length ws)) fits);
       buffer = c.read_words.ensures ∙ ap (λ (bs : List ℕ). over (words_in h.count bs) b) there

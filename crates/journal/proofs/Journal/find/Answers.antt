@@ -1,5 +1,6 @@
 -- rows are distinct, so the table holds what the first record under the key holds
-use Rattle.std.proofs.Common.{◌+◌, ◌≤◌, Some, None, vec_items, sym, ap, ◌∙◌, subst, arith}
+use Rattle.std.proofs.Common.{◌≡◌, ℕ, ◌+◌, ◌≤◌, List, Some, None, Option, vec_items, sym, ap, ◌∙◌, subst, arith}
+use Rattle.std.specs.Option.{option_map}
 use Rattle.records.specs.declared.Held.{Held}
 use Rattle.records.specs.Layout.{size_of, row_in}
 use Rattle.journal.specs.State.{records_of, rows_of}
@@ -7,31 +8,30 @@ use Rattle.journal.proofs.Sorting.{lookup_sort}
 use Rattle.journal.proofs.Holding.{first_in, laid_at}
 use Rattle.journal.proofs.Journal.find.Goals as goal
 
+pub returns-in_err-i-clause-held : goal.returns-in_err-i-clause-held
+returns-in_err-i-clause-held c =
+    let j = c.args.self.now in
+    let words : Held → List ℕ = λ h. (row_in (records_of j) h).words in
+    lookup_sort (rows_of j) j.sound.distinct c.args.cluster c.args.number
+    ∙ first_in (records_of j) (vec_items j.held) _ c.args.cluster c.args.number None c.as_slice.ensures.value c.in_err-i.ensures
+    ∙ sym (ap (λ (o : Option Held). option_map words o) c.from_residual.ensures)
+
 pub index-requires : goal.index-requires
 index-requires c =
     let j = c.args.self.now in
-    let len = j.held.ok.0 in
-    let there = first_in (records_of j) (vec_items j.held) c.as_slice.result.now c.args.cluster c.args.number (Some c.in-Some.i) c.as_slice.ensures.value c.in-Some.ensures in
-    omega (arith, there.0)
+    let there = first_in (records_of j) (vec_items j.held) _ c.args.cluster c.args.number (Some c.in_ok-i.i) c.as_slice.ensures.value c.in_ok-i.ensures in
+    omega (arith, there.0, j.held.ok.0)
 
-pub returns-in-Some : goal.returns-in-Some
-returns-in-Some c =
+pub returns-clause-held : goal.returns-clause-held
+returns-clause-held c =
     let j = c.args.self.now in
-    let h = c.index.result.now in
-    let there = first_in (records_of j) (vec_items j.held) c.as_slice.result.now c.args.cluster c.args.number (Some c.in-Some.i) c.as_slice.ensures.value c.in-Some.ensures in
-    let is = c.index.ensures in
-    record {
-      held = lookup_sort (rows_of j) c.requires.distinct c.args.cluster c.args.number ∙ there.1 h
-          ∙ ap (λ (x : Held). Some (row_in (records_of j) x).words) (sym is);
-      within = subst (λ (x : Held). x.at + size_of x.count ≤ j.used) (sym is)
-          (laid_at 0 (vec_items j.held) c.in-Some.i h j.used c.requires.laid there.0);
-    }
+    let there = first_in (records_of j) (vec_items j.held) _ c.args.cluster c.args.number (Some c.in_ok-i.i) c.as_slice.ensures.value c.in_ok-i.ensures in
+    lookup_sort (rows_of j) j.sound.distinct c.args.cluster c.args.number ∙ there.1 c.index.result.now
+    ∙ ap (λ (x : Held). Some (row_in (records_of j) x).words) (sym c.index.ensures)
 
-pub returns-in-None : goal.returns-in-None
-returns-in-None c =
+pub returns-clause-within : goal.returns-clause-within
+returns-clause-within c =
     let j = c.args.self.now in
-    record {
-      held = lookup_sort (rows_of j) c.requires.distinct c.args.cluster c.args.number
-          ∙ first_in (records_of j) (vec_items j.held) c.as_slice.result.now c.args.cluster c.args.number None c.as_slice.ensures.value c.in-None.ensures;
-      within = tt;
-    }
+    let there = first_in (records_of j) (vec_items j.held) _ c.args.cluster c.args.number (Some c.in_ok-i.i) c.as_slice.ensures.value c.in_ok-i.ensures in
+    subst (λ (x : Held). x.at + size_of x.count ≤ j.used) (sym c.index.ensures)
+    (laid_at 0 (vec_items j.held) c.in_ok-i.i c.index.result.now j.used j.sound.laid there.0)
