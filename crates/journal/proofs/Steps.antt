@@ -6,7 +6,7 @@ use Rattle.std.proofs.lemmas.List.{append-nil, map-append, length-map, length-ta
 use Rattle.std.specs.Global.{Vec}
 use Rattle.std.specs.Vec.{with_items}
 use Rattle.std.specs.List.{remove as removed}
-use Rattle.store.specs.Table.{TableRow, Model, insert, remove, keep_refusal, keep_model, drop_model}
+use Rattle.store.specs.Table.{TableRow, insert, remove, keep_refusal, keep_model, drop_model}
 use Rattle.store.specs.Formed.{Formed}
 use Rattle.store.proofs.Orders.{both_true}
 use Rattle.store.proofs.Edits.{map_removed}
@@ -86,7 +86,7 @@ dropped_model j rows c n e =
 -- a row is kept
 -- where the record of a new row stands
 abbrev pub new_place : Journal → ℕ → ℕ → List ℕ → Held
-new_place j c n ws = record { cluster = c; number = n; at = j.used; count = length ws }
+new_place j c n ws = record { key = record { cluster = c; number = n }; at = j.used; count = length ws }
 
 module _ (j : Journal) {b : List ℕ} {e : ℕ} (held index : Vec Held) (c n : ℕ) (ws : List ℕ) (free : keep_refusal (journal_model j) c n ws ≡ None) where
   pub append_step : length b ≡ length j.bytes.now → e ≡ j.used + size_of (length ws) → e ≤ 16832 → take e b ≡ records_of j ++ keep_bytes (new_row c n ws) → ((rest : List ℕ) → words_in (length ws) (words_bytes ws ++ rest) ≡ ws) → vec_items held ≡ vec_items j.held ++ (new_place j c n ws ∷ []) → vec_capacity j.held ≤ vec_capacity held → ((xs : List ℕ) → map (row_in xs) (vec_items index) ≡ insert (row_in xs (new_place j c n ws)) (map (row_in xs) (vec_items j.index))) → vec_capacity j.index ≤ vec_capacity index → (map (row_in (take e b)) (vec_items held) ≡ rows_of j ++ (new_row c n ws ∷ [])) × Sound b e held index

@@ -9,7 +9,7 @@ use records::{
 };
 use refusal::StoreRefusal;
 use std::alloc::Global;
-use store::{MOST_WORDS, RowKey, Store, key_at};
+use store::{Limit, RowKey, Store, key_at};
 
 mod make;
 
@@ -17,6 +17,11 @@ pub use make::MakeRefusal;
 
 // As many rows as slots hold, and just the bytes for that many records of 32 words.
 pub const CAPACITY: usize = 64;
+
+const LIMIT: Limit = Limit {
+    capacity: CAPACITY,
+    side: 0,
+};
 
 pub const SIZE: usize = 16_832;
 
@@ -35,7 +40,8 @@ pub struct Journal<'a> {
 impl<'a> Journal<'a> {
     ghost use Rattle.std.specs.Prelude.{◌≡◌, ◌+◌, ◌*◌, ◌<◌, ◌≤◌, [], ◌∷◌, ◌++◌, length, IfSome, if◌then◌else◌, Some, None, MatchResult, nat_eq, nat_le};
     ghost use Rattle.std.specs.Option.{option_map};
-    ghost use Rattle.store.specs.Table.{lookup, remove, keep_refusal, keep_model, drop_refusal, drop_model, answered, told, unless, over, read_refused};
+    ghost use Rattle.refusal.specs.Answers.{unless_refused, replied};
+    ghost use Rattle.store.specs.Table.{lookup, remove, keep_refusal, keep_model, drop_refusal, drop_model, over, read_refused};
     ghost use Rattle.records.specs.Encode.{keep_bytes, drop_bytes, rows_bytes};
     ghost use Rattle.records.specs.Layout.{size_of, row_in};
     ghost use Rattle.journal.specs.State.{records_of, rows_of, journal_model, keep_records, drop_records};
@@ -55,35 +61,19 @@ impl<'a> Journal<'a> {
     }
 
     // The record of a row that is held.
-    fn find(&self, cluster: u8, number: u32) -> Option<Held>
-        ensures held { lookup (journal_model self.now).table cluster number ≡ option_map (λ h. (row_in (records_of self.now) h).words) result }
+    fn find(&self, key: RowKey) -> Option<Held>
+        ensures held { lookup (journal_model self.now).table key.cluster key.number ≡ option_map (λ h. (row_in (records_of self.now) h).words) result }
         ensures within { IfSome result (λ h. h.at + size_of h.count ≤ self.now.used) }
     {
-        let i = first_of(self.held.as_slice(), cluster, number)?;
+        let i = first_of(self.held.as_slice(), key)?;
         Some(self.held[i])
-    }
-
-    // Refuses what `keep` refuses.
-    fn check_keep(&self, cluster: u8, number: u32, words: &[u64]) -> Result<(), StoreRefusal>
-        ensures { result ≡ answered (keep_refusal (journal_model self.now) cluster number words.now) }
-    {
-        if words.is_empty() || words.len() > MOST_WORDS {
-            return Err(StoreRefusal::WordCount);
-        }
-        if self.find(cluster, number).is_some() {
-            return Err(StoreRefusal::Held);
-        }
-        if self.count() >= CAPACITY {
-            return Err(StoreRefusal::Full(0));
-        }
-        Ok(())
     }
 
     // Copies the words of a record to the front of a buffer, and tells how many they are.
     fn copy_out(&self, place: Held, buffer: &mut [u64]) -> Result<usize, StoreRefusal>
         requires { place.at + size_of place.count ≤ self.now.used }
-        ensures answer { result ≡ told (read_refused (Some (row_in (records_of self.now) place).words) (length buffer.old)) (length (row_in (records_of self.now) place).words) }
-        ensures buffer { buffer.new ≡ unless (read_refused (Some (row_in (records_of self.now) place).words) (length buffer.old)) buffer.old (over (row_in (records_of self.now) place).words buffer.old) }
+        ensures answer { result ≡ replied (read_refused (Some (row_in (records_of self.now) place).words) (length buffer.old)) (length (row_in (records_of self.now) place).words) }
+        ensures buffer { buffer.new ≡ unless_refused (read_refused (Some (row_in (records_of self.now) place).words) (length buffer.old)) buffer.old (over (row_in (records_of self.now) place).words buffer.old) }
     {
         let count = place.count;
         if count > buffer.len() {
@@ -132,11 +122,11 @@ impl<'a> Journal<'a> {
     }
 
     // Writes the record of a row behind the others.
-    fn append(&mut self, cluster: u8, number: u32, words: &[u64])
-        requires free { keep_refusal (journal_model self.old) cluster number words.now ≡ None }
+    fn append(&mut self, key: RowKey, words: &[u64])
+        requires free { keep_refusal (journal_model self.old) key.cluster key.number words.now ≡ None }
         requires room { self.old.used + size_of (length words.now) ≤ 16832 }
-        ensures records { records_of self.new ≡ records_of self.old ++ keep_bytes (record { cluster = cluster; number = number; words = words.now }) }
-        ensures rows { rows_of self.new ≡ rows_of self.old ++ record { cluster = cluster; number = number; words = words.now } ∷ [] }
+        ensures records { records_of self.new ≡ records_of self.old ++ keep_bytes (record { cluster = key.cluster; number = key.number; words = words.now }) }
+        ensures rows { rows_of self.new ≡ rows_of self.old ++ record { cluster = key.cluster; number = key.number; words = words.now } ∷ [] }
     {
         let Journal {
             bytes,
@@ -145,23 +135,22 @@ impl<'a> Journal<'a> {
             index,
         } = self;
         let new = Held {
-            cluster,
-            number,
+            key,
             at: *used,
             count: words.len(),
         };
-        *used = write_keep(bytes, *used, cluster, number, words);
+        *used = write_keep(bytes, *used, key, words);
         held.push_reserved(new);
         insert_ordered(index, new);
     }
 
     // Forgets a row, and leaves its record where it is.
-    fn forget(&mut self, cluster: u8, number: u32) -> Result<(), StoreRefusal>
-        ensures answer { result ≡ answered (drop_refusal (journal_model self.old) cluster number) }
+    fn forget(&mut self, key: RowKey) -> Result<(), StoreRefusal>
+        ensures answer { result ≡ replied (drop_refusal (journal_model self.old) key.cluster key.number) tt }
         ensures records { records_of self.new ≡ records_of self.old }
-        ensures rows { rows_of self.new ≡ remove (rows_of self.old) cluster number }
+        ensures rows { rows_of self.new ≡ remove (rows_of self.old) key.cluster key.number }
     {
-        let Some(i) = first_of(self.held.as_slice(), cluster, number) else {
+        let Some(i) = first_of(self.held.as_slice(), key) else {
             return Err(StoreRefusal::NotHeld);
         };
         self.held.remove(i);
@@ -170,38 +159,38 @@ impl<'a> Journal<'a> {
     }
 
     // Writes behind the other records that a row was dropped.
-    fn note_drop(&mut self, cluster: u8, number: u32)
+    fn note_drop(&mut self, key: RowKey)
         requires { self.old.used + 6 ≤ 16832 }
-        ensures records { records_of self.new ≡ records_of self.old ++ drop_bytes cluster number }
+        ensures records { records_of self.new ≡ records_of self.old ++ drop_bytes key.cluster key.number }
         ensures rows { rows_of self.new ≡ rows_of self.old }
     {
         let used = self.used;
-        self.used = write_drop(self.bytes, used, cluster, number);
+        self.used = write_drop(self.bytes, used, key);
     }
 
     // Keeps a row, as `keep` does, and says which records there are then.
-    pub fn keep_row(&mut self, cluster: u8, number: u32, words: &[u64]) -> Result<(), StoreRefusal>
-        ensures answer { result ≡ answered (keep_refusal (journal_model self.old) cluster number words.now) }
-        ensures after { journal_model self.new ≡ keep_model (journal_model self.old) cluster number words.now }
-        ensures records { records_of self.new ≡ unless (keep_refusal (journal_model self.old) cluster number words.now) (records_of self.old) (keep_records (records_of self.old) (rows_of self.old) (record { cluster = cluster; number = number; words = words.now })) }
-        ensures rows { rows_of self.new ≡ unless (keep_refusal (journal_model self.old) cluster number words.now) (rows_of self.old) (rows_of self.old ++ record { cluster = cluster; number = number; words = words.now } ∷ []) }
+    pub fn keep_row(&mut self, key: RowKey, words: &[u64]) -> Result<(), StoreRefusal>
+        ensures answer { result ≡ replied (keep_refusal (journal_model self.old) key.cluster key.number words.now) tt }
+        ensures after { journal_model self.new ≡ keep_model (journal_model self.old) key.cluster key.number words.now }
+        ensures records { records_of self.new ≡ unless_refused (keep_refusal (journal_model self.old) key.cluster key.number words.now) (records_of self.old) (keep_records (records_of self.old) (rows_of self.old) (record { cluster = key.cluster; number = key.number; words = words.now })) }
+        ensures rows { rows_of self.new ≡ unless_refused (keep_refusal (journal_model self.old) key.cluster key.number words.now) (rows_of self.old) (rows_of self.old ++ record { cluster = key.cluster; number = key.number; words = words.now } ∷ []) }
     {
-        self.check_keep(cluster, number, words)?;
+        self.check_keep(LIMIT, key, words)?;
         self.make_room(7 + 8 * words.len());
-        self.append(cluster, number, words);
+        self.append(key, words);
         Ok(())
     }
 
     // Drops a row, as `discard` does, and says which records there are then.
-    pub fn drop_row(&mut self, cluster: u8, number: u32) -> Result<(), StoreRefusal>
-        ensures answer { result ≡ answered (drop_refusal (journal_model self.old) cluster number) }
-        ensures after { journal_model self.new ≡ drop_model (journal_model self.old) cluster number }
-        ensures records { records_of self.new ≡ unless (drop_refusal (journal_model self.old) cluster number) (records_of self.old) (drop_records (records_of self.old) (rows_of self.old) cluster number) }
-        ensures rows { rows_of self.new ≡ remove (rows_of self.old) cluster number }
+    pub fn drop_row(&mut self, key: RowKey) -> Result<(), StoreRefusal>
+        ensures answer { result ≡ replied (drop_refusal (journal_model self.old) key.cluster key.number) tt }
+        ensures after { journal_model self.new ≡ drop_model (journal_model self.old) key.cluster key.number }
+        ensures records { records_of self.new ≡ unless_refused (drop_refusal (journal_model self.old) key.cluster key.number) (records_of self.old) (drop_records (records_of self.old) (rows_of self.old) key.cluster key.number) }
+        ensures rows { rows_of self.new ≡ remove (rows_of self.old) key.cluster key.number }
     {
-        self.forget(cluster, number)?;
+        self.forget(key)?;
         if self.fits(6) {
-            self.note_drop(cluster, number);
+            self.note_drop(key);
         } else {
             self.squeeze();
         }
@@ -214,16 +203,16 @@ impl<'a> Store for Journal<'a> {
 
     ghost model = { journal_model };
 
-    fn keep(&mut self, cluster: u8, number: u32, words: &[u64]) -> Result<(), StoreRefusal> {
-        self.keep_row(cluster, number, words)
+    fn keep(&mut self, key: RowKey, words: &[u64]) -> Result<(), StoreRefusal> {
+        self.keep_row(key, words)
     }
 
-    fn discard(&mut self, cluster: u8, number: u32) -> Result<(), StoreRefusal> {
-        self.drop_row(cluster, number)
+    fn discard(&mut self, key: RowKey) -> Result<(), StoreRefusal> {
+        self.drop_row(key)
     }
 
-    fn read(&self, cluster: u8, number: u32, buffer: &mut [u64]) -> Result<usize, StoreRefusal> {
-        let place = self.find(cluster, number).ok_or(StoreRefusal::NotHeld)?;
+    fn read(&self, key: RowKey, buffer: &mut [u64]) -> Result<usize, StoreRefusal> {
+        let place = self.find(key).ok_or(StoreRefusal::NotHeld)?;
         self.copy_out(place, buffer)
     }
 
@@ -233,6 +222,10 @@ impl<'a> Store for Journal<'a> {
 
     fn capacity(&self) -> usize {
         CAPACITY
+    }
+
+    fn holds(&self, key: RowKey) -> bool {
+        self.find(key).is_some()
     }
 
     fn position(&self, at: usize) -> Result<RowKey, StoreRefusal> {

@@ -1,7 +1,8 @@
 -- the words read where they stand are those of the row
 use Rattle.std.proofs.Common.{◌≡◌, ℕ, List, length, Ok, Option, sym, ap, ◌∙◌, arith}
 use Rattle.refusal.specs.declared.StoreRefusal.{StoreRefusal}
-use Rattle.store.specs.Table.{told, unless, over}
+use Rattle.refusal.specs.Answers.{unless_refused, replied}
+use Rattle.store.specs.Table.{over}
 use Rattle.records.specs.Encode.{words_in}
 use Rattle.records.specs.Layout.{row_in}
 use Rattle.records.proofs.Words.{length-words_in}
@@ -16,8 +17,8 @@ returns-then-count-buffer c =
     let long : length ws ≡ c.args.place.count = length-words_in c.args.place.count _ in
     let short = short-read ws c.args.place.count (length b) long (omega arith) in
     record {
-      answer = sym (ap (λ (why : Option StoreRefusal). told why (length ws)) short);
-      buffer = sym (ap (λ (why : Option StoreRefusal). unless why b (over ws b)) short);
+      answer = sym (ap (λ (why : Option StoreRefusal). replied why (length ws)) short);
+      buffer = sym (ap (λ (why : Option StoreRefusal). unless_refused why b (over ws b)) short);
     }
 
 pub returns : goal.returns
@@ -32,7 +33,7 @@ returns c =
     let low = c.args.self.now.sound.used in
     let there = words_there bytes c.args.self.now.used h.at h.count _ c.requires (omega arith) (omega arith) in
     record {
-      answer = ap Ok (sym long) ∙ sym (ap (λ (why : Option StoreRefusal). told why (length ws)) fits);
+      answer = ap Ok (sym long) ∙ sym (ap (λ (why : Option StoreRefusal). replied why (length ws)) fits);
       buffer = c.read_words.ensures ∙ ap (λ (bs : List ℕ). over (words_in h.count bs) b) there
-          ∙ sym (ap (λ (why : Option StoreRefusal). unless why b (over ws b)) fits);
+          ∙ sym (ap (λ (why : Option StoreRefusal). unless_refused why b (over ws b)) fits);
     }

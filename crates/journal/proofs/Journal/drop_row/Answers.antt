@@ -4,12 +4,12 @@ use Rattle.journal.proofs.Steps.{dropped_model}
 use Rattle.journal.proofs.Journal.drop_row.Goals as goal
 
 pub returns-in_err-forget-clause-after : goal.returns-in_err-forget-clause-after
-returns-in_err-forget-clause-after c = dropped_model c.args.self.now _ c.args.cluster c.args.number c.forget.ensures.rows
+returns-in_err-forget-clause-after c = dropped_model c.args.self.now _ c.args.key.cluster c.args.key.number c.forget.ensures.rows
 
 pub returns-then-fits-clause-after : goal.returns-then-fits-clause-after
 returns-then-fits-clause-after c =
-    dropped_model c.args.self.now _ c.args.cluster c.args.number (c.note_drop.ensures.rows ∙ c.forget.ensures.rows)
+    dropped_model c.args.self.now _ c.args.key.cluster c.args.key.number (c.note_drop.ensures.rows ∙ c.forget.ensures.rows)
 
 pub returns-else-fits-clause-after : goal.returns-else-fits-clause-after
 returns-else-fits-clause-after c =
-    dropped_model c.args.self.now _ c.args.cluster c.args.number (c.squeeze.ensures.rows ∙ c.forget.ensures.rows)
+    dropped_model c.args.self.now _ c.args.key.cluster c.args.key.number (c.squeeze.ensures.rows ∙ c.forget.ensures.rows)

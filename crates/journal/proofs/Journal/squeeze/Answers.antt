@@ -1,6 +1,5 @@
 -- the records lie in order, so they can be moved together; the vector shows the moved ones
-use Rattle.std.proofs.Common.{◌≡◌, List, length, vec_items, vec_len, sym, ap, ◌∙◌, subst, arith}
-use Rattle.std.proofs.lemmas.List.{with_items_is}
+use Rattle.std.proofs.Common.{List, length, vec_items, sym, subst, arith}
 use Rattle.records.specs.declared.Held.{Held}
 use Rattle.records.specs.Layout.{Laid}
 use Rattle.journal.proofs.Holding.{laid_wider}
