@@ -11,7 +11,7 @@ use Rattle.ordered.specs.Seek.{stands, seek, onward, leads, ascending, Sought}
 use Rattle.law.specs.declared.Checkpoint.{Checkpoint}
 use Rattle.law.specs.declared.Logged.{Logged}
 use Rattle.law.specs.Book.{checkpoint_at, logged}
-use Rattle.book.specs.Sound.{number_of, id_of}
+use Rattle.book.specs.Rules.{number_of, id_of}
 use Rattle.book.specs.Finding.{LoggedAt}
 
 -- the first record with this key

@@ -2,9 +2,9 @@
 use Rattle.std.proofs.Common.{◌≡◌, ℕ, ◌<◌, List, map, length, get_or, set, vec_items, vec_len, sym, ap, ◌∙◌}
 use Rattle.std.proofs.lemmas.List.{get_or-map, map-set, length-map}
 use Rattle.law.specs.Book.{Cluster as Group, nobody}
-use Rattle.book.specs.declared.Cluster.{Cluster}
+use Rattle.book.specs.declared.cluster.Cluster.{Cluster}
 use Rattle.store.specs.Table.{Model}
-use Rattle.book.specs.declared.Book.{Book}
+use Rattle.book.specs.declared.book.Book.{Book}
 use Rattle.book.specs.View.{group, view}
 
 pub group_at : (cs : List Cluster) (i : ℕ) (c : Cluster) → i < length cs → c ≡ get_or cs i c → group c ≡ get_or (map group cs) i nobody

@@ -1,4 +1,4 @@
-pub mod Soundness
+pub mod Placing
 pub mod Groups
 pub mod Finding
 pub mod Rising

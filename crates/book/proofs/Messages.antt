@@ -11,7 +11,7 @@ use Rattle.store.proofs.Orders.{both_true}
 use Rattle.law.specs.declared.Message.{Message}
 use Rattle.law.specs.declared.Logged.{Logged}
 use Rattle.law.specs.Messages.{receive}
-use Rattle.book.specs.Sound.{id_of, ids_below, addressed, between, is_between}
+use Rattle.book.specs.Rules.{id_of, ids_below, addressed, between, is_between}
 
 -- what a test of two different clusters says
 pub record Between (n i j : ℕ) : Type 0 where

@@ -11,8 +11,8 @@ use Rattle.store.proofs.Orders.{both_true}
 use Rattle.law.specs.declared.Checkpoint.{Checkpoint}
 use Rattle.law.specs.declared.Logged.{Logged}
 use Rattle.law.specs.Book.{entry, most_kept, last_number}
-use Rattle.book.specs.Sound.{number_of, id_of, topped, ids_below, addressed, between, can_end}
-use Rattle.book.proofs.Soundness.{both_is}
+use Rattle.book.specs.Rules.{number_of, id_of, topped, ids_below, addressed, between, can_end}
+use Rattle.book.proofs.Placing.{both_is}
 
 module _ {X : Type 0} (key : X → ℕ) where
   leads_push : (x : X) (xs : List X) (y : X) → leads nat_cmp key x xs ≡ true → key x < key y → leads nat_cmp key x (xs ++ (y ∷ [])) ≡ true

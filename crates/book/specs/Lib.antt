@@ -1,4 +1,5 @@
+pub mod Rules
+pub mod Placed
 pub mod View
-pub mod Sound
 pub mod Finding
 pub mod Logs

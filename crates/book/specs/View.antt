@@ -9,8 +9,8 @@ use Rattle.std.specs.Prelude.{ℕ, List, [], map, None, vec_items}
 use Rattle.law.specs.Opening.{first_clusters}
 use Rattle.store.specs.Table.{Model}
 use Rattle.law.specs.Book.{Cluster as Group, Book as Shown}
-use Rattle.book.specs.declared.Cluster.{Cluster}
-use Rattle.book.specs.declared.Book.{Book}
+use Rattle.book.specs.declared.cluster.Cluster.{Cluster}
+use Rattle.book.specs.declared.book.Book.{Book}
 
 abbrev pub group : Cluster → Group
 group c = record { row = c.row; kept = vec_items c.kept; round = c.round }

@@ -3,7 +3,7 @@ ghost use Rattle.std.specs.Prelude.{◌≡◌, ◌<◌, true, length};
 ghost use Rattle.std.specs.Ordering.{nat_cmp};
 ghost use Rattle.ordered.specs.Seek.{ascending};
 ghost use Rattle.law.specs.Book.{checkpoint_at, logged};
-ghost use Rattle.book.specs.Sound.{number_of, id_of};
+ghost use Rattle.book.specs.Rules.{number_of, id_of};
 ghost use Rattle.book.specs.Finding.{LoggedAt};
 
 use law::{Checkpoint, Logged};

@@ -1,8 +1,0 @@
-use Rattle.std.proofs.Common.{◌≡◌, true, map, vec_items, vec_len}
-use Rattle.law.specs.Opening.{first_clusters}
-use Rattle.book.specs.Sound.{clusters_sound}
-use Rattle.book.specs.View.{group}
-use Rattle.book.proofs.opens.new_clusters.Given as goal
-
-abbrev pub invariant-loop-i : goal.invariant-loop-i
-invariant-loop-i l = (vec_len l.clusters ≡ l.i) × (map group (vec_items l.clusters) ≡ first_clusters l.i) × (clusters_sound 0 (vec_items l.clusters) ≡ true)
