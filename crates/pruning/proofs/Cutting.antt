@@ -1,14 +1,13 @@
 -- What a cluster and a book show after a cut, field by field.
-use Rattle.std.proofs.Common.{◌≡◌, ℕ, ◌<◌, Bool, leb, List, get_or, set, vec_items, vec_len, filter, Option, ap, ◌∙◌, arith}
-use Rattle.std.specs.Vec.{with_item}
+use Rattle.std.proofs.Common.{◌≡◌, ℕ, ◌<◌, Bool, leb, List, map, get_or, set, vec_items, vec_len, filter, Option, ap, ◌∙◌, arith}
 use Rattle.store.specs.Table.{Model}
 use Rattle.law.specs.declared.Checkpoint.{Checkpoint}
 use Rattle.law.specs.declared.Round.{Round}
 use Rattle.law.specs.Book.{Cluster as Group, at, with_clusters, with_store}
 use Rattle.law.specs.Restarts.{back, discard}
 use Rattle.law.specs.Trials.{from}
-use Rattle.book.specs.declared.Cluster.{Cluster}
-use Rattle.book.specs.declared.Book.{Book}
+use Rattle.book.specs.declared.cluster.Cluster.{Cluster}
+use Rattle.book.specs.declared.book.Book.{Book}
 use Rattle.book.specs.View.{group, groups, view}
 use Rattle.book.proofs.Groups.{group_at, group-set}
 use Rattle.pruning.specs.Cutting.{prune_at, row_back}
@@ -25,14 +24,9 @@ module _ (was : Cluster) (place : ℕ) where
   pub from_shown : (kept : List Checkpoint) → kept ≡ filter (λ k. leb place k.number) (vec_items was.kept) → grouped was.row kept was.round ≡ from place (group was)
   from_shown kept k = ap (λ (z : List Checkpoint). grouped was.row z was.round) k
 
--- a book in which one cluster is another
-abbrev pub with_one : Book → ℕ → Cluster → Book
-with_one b i c =
-    record { name = b.name; nodes = b.nodes; clusters = with_item b.clusters i c; log = b.log; next_id = b.next_id; restarts = b.restarts; restart = b.restart }
-
 module _ (change : ℕ → Group → Group) (gone : ℕ → ℕ → Bool) (b : Book) (m : Model) (i : ℕ) (was new : Cluster) where
   pub prune-shown : i < vec_len b.clusters → was ≡ get_or (vec_items b.clusters) i was → group new ≡ change i (group was) →
-      (left : Model) → left ≡ discard i (gone i) (vec_items was.kept) m → view (with_one b i new) left ≡ prune_at change gone i (view b m)
+      (left : Model) → left ≡ discard i (gone i) (vec_items was.kept) m → with_store (with_clusters (view b m) (map group (set (vec_items b.clusters) i new))) left ≡ prune_at change gone i (view b m)
   prune-shown h read changed left dropped =
       let len = b.clusters.ok.0 in
       let shown : group was ≡ at (view b m) i = group_at (vec_items b.clusters) i was (omega arith) read in

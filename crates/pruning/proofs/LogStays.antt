@@ -7,7 +7,7 @@ use Rattle.ordered.specs.Seek.{ascending}
 use Rattle.law.specs.declared.Logged.{Logged}
 use Rattle.law.specs.Restarts.{undone, unreceived, log_back}
 use Rattle.law.specs.Trials.{received_from, log_from}
-use Rattle.book.specs.Sound.{id_of, between, addressed, ids_below}
+use Rattle.book.specs.Rules.{id_of, between, addressed, ids_below}
 use Rattle.law.proofs.Prune.{length_kept}
 use Rattle.pruning.proofs.Filtering.{every, every_kept, every_map, ascending_kept, ascending-map}
 

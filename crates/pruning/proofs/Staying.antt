@@ -1,6 +1,7 @@
 -- A cluster that loses checkpoints stays sound: the filter keeps what the test of each checkpoint says, and the row that it goes
 -- back to has the number of that place as its own entry, so the cluster's number does not rise.
 use Rattle.std.proofs.Common.{◌≡◌, ℕ, ◌≤◌, Bool, true, false, eqb, ltb, leb, List, [], ◌∷◌, length, is_some, Some, None, vec_items, vec_len, vec_capacity, filter, Option, sym, refl, ap, ◌∙◌, subst, inl, inr, arith}
+use Rattle.std.specs.Global.{Vec}
 use Rattle.std.proofs.lemmas.Bool.{cond-true, cond-false, cond_both, cases_Bool, eqb-true, leb-true, ltb-true, lt-ltb, le-leb}
 use Rattle.store.specs.Table.{both}
 use Rattle.store.proofs.Orders.{both_true, both_from}
@@ -9,8 +10,8 @@ use Rattle.ordered.specs.Seek.{ascending}
 use Rattle.law.specs.declared.Checkpoint.{Checkpoint}
 use Rattle.law.specs.declared.Round.{Round}
 use Rattle.law.specs.Book.{entry, checkpoint_at, row_or, stays, most_kept, last_number}
-use Rattle.book.specs.declared.Cluster.{Cluster}
-use Rattle.book.specs.Sound.{topped, can_end, number_of, ClusterSound}
+use Rattle.book.specs.declared.cluster.Cluster.{Cluster}
+use Rattle.book.specs.Rules.{topped, can_end, number_of}
 use Rattle.pruning.specs.Cutting.{row_back}
 use Rattle.law.proofs.Prune.{length_kept}
 use Rattle.pruning.proofs.Filtering.{every, every_kept, ascending_kept}
@@ -71,21 +72,28 @@ ends-lower true kept fewer number lower f l t =
     both_from (ltb fewer most_kept) (ltb lower last_number) (lt-ltb fewer most_kept (omega arith)) (lt-ltb lower last_number (omega arith))
 ends-lower false kept fewer number lower f l t = refl
 
-module _ (i : ℕ) (was new : Cluster) (p : Checkpoint → Bool) where
-  pub cluster-stays : ClusterSound i was → vec_items new.kept ≡ filter p (vec_items was.kept) → vec_capacity new.kept ≡ vec_capacity was.kept → new.round ≡ was.round → entry new.row i ≤ entry was.row i → ((c : Checkpoint) → p c ≡ true → c.number ≤ entry was.row i → c.number ≤ entry new.row i) → ClusterSound i new
-  cluster-stays s items capacity round lower low =
+-- what holds of a cluster's row, checkpoints and round
+pub record Kept (own : ℕ) (row : List ℕ) (kept : Vec Checkpoint) (round : Option Round) : Type 0 where
+  pub room : most_kept ≤ vec_capacity kept
+  pub few : vec_len kept ≤ most_kept
+  pub ascends : ascending nat_cmp number_of (vec_items kept) ≡ true
+  pub topped : topped own (entry row own) (vec_items kept) ≡ true
+  pub ends : can_end (is_some round) (vec_len kept) (entry row own) ≡ true
+
+module _ (was : Cluster) (row : List ℕ) (kept : Vec Checkpoint) (p : Checkpoint → Bool) where
+  pub cluster-stays : vec_items kept ≡ filter p (vec_items was.kept) → vec_capacity kept ≡ vec_capacity was.kept → entry row was.own ≤ entry was.row was.own → ((c : Checkpoint) → p c ≡ true → c.number ≤ entry was.row was.own → c.number ≤ entry row was.own) → Kept was.own row kept was.round
+  cluster-stays items capacity lower low =
       let many = was.kept.ok.0 in
-      let left = new.kept.ok.0 in
+      let left = kept.ok.0 in
       let same = ap length items in
-      let few = length_kept p (vec_items was.kept) in
-      let fewer : vec_len new.kept ≤ vec_len was.kept = omega arith in
-      let room = s.room in
-      let most = s.few in
+      let less = length_kept p (vec_items was.kept) in
+      let fewer : vec_len kept ≤ vec_len was.kept = omega arith in
+      let room = was.room in
+      let most = was.few in
       record {
         room = omega arith;
         few = omega arith;
-        ascends = ap (λ (z : List Checkpoint). ascending nat_cmp number_of z) items ∙ ascending_kept number_of p (vec_items was.kept) s.ascends;
-        topped = ap (topped i (entry new.row i)) items ∙ topped_kept i (entry was.row i) (entry new.row i) p (vec_items was.kept) low s.topped;
-        ends = ends-lower (is_some new.round) (vec_len was.kept) (vec_len new.kept) (entry was.row i) (entry new.row i) fewer lower
-            (ap (λ (z : Option Round). can_end (is_some z) (vec_len was.kept) (entry was.row i)) round ∙ s.ends);
+        ascends = ap (λ (z : List Checkpoint). ascending nat_cmp number_of z) items ∙ ascending_kept number_of p (vec_items was.kept) was.ascends;
+        topped = ap (topped was.own (entry row was.own)) items ∙ topped_kept was.own (entry was.row was.own) (entry row was.own) p (vec_items was.kept) low was.topped;
+        ends = ends-lower (is_some was.round) (vec_len was.kept) (vec_len kept) (entry was.row was.own) (entry row was.own) fewer lower was.ends;
       }

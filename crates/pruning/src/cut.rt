@@ -1,15 +1,12 @@
 // Clusters cut one after another: each loses kept checkpoints, and the store their rows.
 ghost use Rattle.std.specs.Prelude.{◌≡◌, ℕ, ◌<◌, Bool, true, filter, vec_len, vec_capacity, nat_le, nat_lt, slice_index};
-ghost use Rattle.std.specs.Ordering.{nat_cmp};
-ghost use Rattle.ordered.specs.Seek.{ascending};
 ghost use Rattle.law.specs.Book.{Cluster as Group};
 ghost use Rattle.law.specs.Restarts.{back, discard, prune as pruned};
 ghost use Rattle.law.specs.Trials.{from};
 ghost use Rattle.book.specs.View.{group, view};
-ghost use Rattle.book.specs.Sound.{number_of, cluster_sound, sound};
 ghost use Rattle.pruning.specs.Cutting.{prune_at, row_back};
 
-use crate::{Back, Collect, entry};
+use crate::{Back, Collect};
 use book::{Book, Cluster, STAYS, checkpoint_at};
 use law::Checkpoint;
 use store::{RowKey, Store};
@@ -20,23 +17,23 @@ pub trait Cut {
 
     ghost gone: { Self → ℕ → ℕ → Bool };
 
-    fn loses(&self, i: u8, number: u32) -> bool
-        ensures { result ≡ gone self.now i number };
+    fn loses(&self, cluster: usize, number: u32) -> bool
+        requires { cluster < 8 }
+        ensures { result ≡ gone self.now cluster number };
 
-    fn change(&self, i: u8, cluster: &mut Cluster)
-        requires { cluster_sound i cluster.old ≡ true }
-        ensures after { group cluster.new ≡ change self.now i (group cluster.old) }
-        ensures sound { cluster_sound i cluster.new ≡ true };
+    fn change(&self, cluster: &mut Cluster)
+        ensures after { group cluster.new ≡ change self.now cluster.old.own (group cluster.old) }
+        ensures own { cluster.new.own ≡ cluster.old.own };
 }
 
 // Drops from the store the rows of the checkpoints that a cluster loses.
-fn discard_rows<C: Cut, S: Store>(store: &mut S, i: u8, checkpoints: &[Checkpoint], cut: &C)
-    ensures { S.Store.model store.new ≡ discard i (C.Cut.gone cut.now i) checkpoints.now (S.Store.model store.old) }
+fn discard_rows<C: Cut, S: Store>(store: &mut S, cluster: &Cluster, cut: &C)
+    ensures { S.Store.model store.new ≡ discard cluster.now.own (C.Cut.gone cut.now cluster.now.own) cluster.now.kept.items (S.Store.model store.old) }
 {
-    for checkpoint in checkpoints {
-        if cut.loses(i, checkpoint.number) {
+    for checkpoint in &cluster.kept {
+        if cut.loses(cluster.own, checkpoint.number) {
             let _ = store.discard(RowKey {
-                cluster: i,
+                cluster: cluster.own as u8,
                 number: checkpoint.number,
             });
         }
@@ -61,7 +58,6 @@ fn keep_from(kept: &mut Vec<Checkpoint>, bound: u32)
 
 // The row of a cluster as it was at its place.
 fn row_back(cluster: &Cluster, place: u32) -> [u32; 8]
-    requires { ascending nat_cmp number_of cluster.now.kept.items ≡ true }
     ensures { result ≡ row_back place cluster.now.row cluster.now.kept.items }
 {
     if place == STAYS {
@@ -79,12 +75,12 @@ impl Cut for Back {
 
     ghost gone = { λ b j n. nat_lt (slice_index b.places j) n };
 
-    fn loses(&self, i: u8, number: u32) -> bool {
-        entry(&self.places, i) < number
+    fn loses(&self, cluster: usize, number: u32) -> bool {
+        self.places[cluster] < number
     }
 
-    fn change(&self, i: u8, cluster: &mut Cluster) {
-        let place = entry(&self.places, i);
+    fn change(&self, cluster: &mut Cluster) {
+        let place = self.places[cluster.own];
         let row = row_back(cluster, place);
         cluster.row = row;
         keep_up_to(&mut cluster.kept, place);
@@ -97,35 +93,32 @@ impl Cut for Collect {
 
     ghost gone = { λ b j n. nat_lt n (slice_index b.bounds j) };
 
-    fn loses(&self, i: u8, number: u32) -> bool {
-        number < entry(&self.bounds, i)
+    fn loses(&self, cluster: usize, number: u32) -> bool {
+        number < self.bounds[cluster]
     }
 
-    fn change(&self, i: u8, cluster: &mut Cluster) {
-        let bound = entry(&self.bounds, i);
+    fn change(&self, cluster: &mut Cluster) {
+        let bound = self.bounds[cluster.own];
         keep_from(&mut cluster.kept, bound);
     }
 }
 
 // One cluster cut.
-fn prune_cluster<C: Cut, S: Store>(book: &mut Book, store: &mut S, i: u8, cut: &C)
-    requires within { i < vec_len book.old.clusters }
-    requires sound { sound book.old ≡ true }
+fn prune_cluster<C: Cut, S: Store>(book: &mut Book, store: &mut S, i: usize, cut: &C)
+    requires { i < vec_len book.old.clusters }
     ensures after { view book.new (S.Store.model store.new) ≡ prune_at (C.Cut.change cut.now) (C.Cut.gone cut.now) i (view book.old (S.Store.model store.old)) }
     ensures len { vec_len book.new.clusters ≡ vec_len book.old.clusters }
-    ensures sound { sound book.new ≡ true }
 {
-    discard_rows(store, i, &book.clusters[i as usize].kept, cut);
-    cut.change(i, &mut book.clusters[i as usize]);
+    let cluster = &mut book.clusters[i];
+    discard_rows(store, cluster, cut);
+    cut.change(cluster);
 }
 
 // Every cluster cut, the first one first.
 pub fn prune<C: Cut, S: Store>(book: &mut Book, store: &mut S, cut: &C)
-    requires { sound book.old ≡ true }
-    ensures after { view book.new (S.Store.model store.new) ≡ pruned (C.Cut.change cut.now) (C.Cut.gone cut.now) (vec_len book.old.clusters) (view book.old (S.Store.model store.old)) }
-    ensures sound { sound book.new ≡ true }
+    ensures { view book.new (S.Store.model store.new) ≡ pruned (C.Cut.change cut.now) (C.Cut.gone cut.now) (vec_len book.old.clusters) (view book.old (S.Store.model store.old)) }
 {
     for i in 0..book.clusters.len() {
-        prune_cluster(book, store, i as u8, cut);
+        prune_cluster(book, store, i, cut);
     }
 }

@@ -6,7 +6,6 @@ ghost use Rattle.std.specs.Prelude.{◌≡◌, true, vec_len, slice_index};
 ghost use Rattle.law.specs.Restarts.{back_to};
 ghost use Rattle.law.specs.Trials.{from_bounds};
 ghost use Rattle.book.specs.View.{view};
-ghost use Rattle.book.specs.Sound.{sound};
 
 use book::Book;
 use store::Store;
@@ -37,18 +36,14 @@ fn entry(row: &[u32; 8], cluster: u8) -> u32
 
 // Every cluster back at its place: later checkpoints are gone from the book and the store, and the row is as it was there.
 pub fn back_to<S: Store>(book: &mut Book, store: &mut S, places: [u32; 8])
-    requires { sound book.old ≡ true }
-    ensures after { view book.new (S.Store.model store.new) ≡ back_to places (vec_len book.old.clusters) (view book.old (S.Store.model store.old)) }
-    ensures sound { sound book.new ≡ true }
+    ensures { view book.new (S.Store.model store.new) ≡ back_to places (vec_len book.old.clusters) (view book.old (S.Store.model store.old)) }
 {
     cut::prune(book, store, &Back { places });
 }
 
 // Every cluster without its checkpoints below its bound, in the book and in the store.
 pub fn from_bounds<S: Store>(book: &mut Book, store: &mut S, bounds: [u32; 8])
-    requires { sound book.old ≡ true }
-    ensures after { view book.new (S.Store.model store.new) ≡ from_bounds bounds (vec_len book.old.clusters) (view book.old (S.Store.model store.old)) }
-    ensures sound { sound book.new ≡ true }
+    ensures { view book.new (S.Store.model store.new) ≡ from_bounds bounds (vec_len book.old.clusters) (view book.old (S.Store.model store.old)) }
 {
     cut::prune(book, store, &Collect { bounds });
 }

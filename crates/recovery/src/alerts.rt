@@ -1,11 +1,8 @@
 // Carrying alerts: a cluster that heard of what is undone goes back before it, and alerts the others in turn.
 ghost use Rattle.std.specs.Prelude.{◌≡◌, ◌<◌, ◌≤◌, true, map, length, is_some, IfSome, None, nat_lt, position};
-ghost use Rattle.std.specs.Ordering.{nat_cmp};
-ghost use Rattle.ordered.specs.Seek.{ascending};
 ghost use Rattle.store.specs.Table.{both};
 ghost use Rattle.law.specs.Book.{entry};
 ghost use Rattle.law.specs.Restarts.{latest, called_to, carry, first_true, first_waiting, drained};
-ghost use Rattle.book.specs.Sound.{number_of, clusters_sound};
 ghost use Rattle.book.specs.View.{group};
 ghost use Rattle.recovery.specs.Called.{entry_of, called_in};
 
@@ -15,8 +12,7 @@ use law::{Alerts, Checkpoint, Restart};
 
 // The cluster's entry for another, at its place: in its row, if it stays, else in the checkpoint there.
 fn entry_of(cluster: &Cluster, place: u32, from: usize) -> u32
-    requires within { from < 8 }
-    requires ascends { ascending nat_cmp number_of cluster.now.kept.items ≡ true }
+    requires { from < 8 }
     ensures { result ≡ entry_of (group cluster.now) place from }
 {
     if place == STAYS {
@@ -50,8 +46,7 @@ fn latest(kept: &[Checkpoint], from: usize, back: u32, place: u32) -> Option<u32
 
 // The checkpoint to which an alert from a cluster that went back calls this one, if it does.
 fn called_in(cluster: &Cluster, from: usize, back: u32, place: u32) -> Option<u32>
-    requires within { from < 8 }
-    requires ascends { ascending nat_cmp number_of cluster.now.kept.items ≡ true }
+    requires { from < 8 }
     ensures { result ≡ called_in (group cluster.now) from back place }
 {
     if back <= entry_of(cluster, place, from) {
@@ -65,7 +60,6 @@ fn called_in(cluster: &Cluster, from: usize, back: u32, place: u32) -> Option<u3
 fn called_to(restart: &Restart, clusters: &[Cluster], from: usize, to: usize) -> Option<u32>
     requires origin { from < 8 }
     requires target { to < 8 }
-    requires sound { clusters_sound 0 clusters.now ≡ true }
     ensures { result ≡ called_to (map group clusters.now) restart.now from to }
 {
     let cluster = clusters.get(to)?;
@@ -77,7 +71,6 @@ pub fn carry(restart: &mut Restart, clusters: &[Cluster], from: usize, to: usize
     requires origin { from < 8 }
     requires target { to < 8 }
     requires few { length clusters.now ≤ 8 }
-    requires sound { clusters_sound 0 clusters.now ≡ true }
     ensures after { restart.new ≡ carry (map group clusters.now) restart.old from to }
     ensures moved { result ≡ is_some (called_to (map group clusters.now) restart.old from to) }
 {
@@ -117,8 +110,7 @@ fn first_waiting(waiting: &[Alerts; 8]) -> Option<(usize, usize)>
 
 // Carries every alert that waits, the lowest pair of clusters first, and those that come of it.
 pub fn drain(restart: &mut Restart, clusters: &[Cluster])
-    requires few { length clusters.now ≤ 8 }
-    requires sound { clusters_sound 0 clusters.now ≡ true }
+    requires { length clusters.now ≤ 8 }
     ensures { restart.new ≡ drained (map group clusters.now) restart.old }
 {
     while let Some((from, to)) = first_waiting(&restart.waiting) {

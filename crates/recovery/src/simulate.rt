@@ -1,7 +1,6 @@
 // A fault is tried on the restart's own places, and what was there is put back.
 ghost use Rattle.std.specs.Prelude.{◌≡◌, ◌<◌, ◌≤◌, true, map, length};
 ghost use Rattle.law.specs.Trials.{trial, lowest};
-ghost use Rattle.book.specs.Sound.{clusters_sound};
 ghost use Rattle.book.specs.View.{group};
 
 use super::alerts::drain;
@@ -31,7 +30,6 @@ impl Drop for Simulated<'_> {
 fn run(restart: &mut Option<Restart>, clusters: &[Cluster], failed: usize) -> [u32; 8]
     requires within { failed < length clusters.now }
     requires few { length clusters.now ≤ 8 }
-    requires sound { clusters_sound 0 clusters.now ≡ true }
     ensures { result ≡ trial (map group clusters.now) failed }
 {
     let tried = restart.insert(begin(clusters, failed));
@@ -43,7 +41,6 @@ fn run(restart: &mut Option<Restart>, clusters: &[Cluster], failed: usize) -> [u
 pub fn trial(restart: &mut Option<Restart>, clusters: &[Cluster], failed: usize) -> [u32; 8]
     requires within { failed < length clusters.now }
     requires few { length clusters.now ≤ 8 }
-    requires sound { clusters_sound 0 clusters.now ≡ true }
     ensures value { result ≡ trial (map group clusters.now) failed }
     ensures same { restart.new ≡ restart.old }
 {
@@ -54,8 +51,7 @@ pub fn trial(restart: &mut Option<Restart>, clusters: &[Cluster], failed: usize)
 
 // The lowest place of each cluster over the faults of every cluster. The restart is as it was.
 pub fn bounds(restart: &mut Option<Restart>, clusters: &[Cluster]) -> [u32; 8]
-    requires few { length clusters.now ≤ 8 }
-    requires sound { clusters_sound 0 clusters.now ≡ true }
+    requires { length clusters.now ≤ 8 }
     ensures value { result ≡ lowest (length clusters.now) (map group clusters.now) }
     ensures same { restart.new ≡ restart.old }
 {

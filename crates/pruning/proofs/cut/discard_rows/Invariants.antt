@@ -5,5 +5,5 @@ use Rattle.pruning.proofs.cut.discard_rows.Given as goal
 
 abbrev pub invariant-loop-checkpoint : goal.invariant-loop-checkpoint
 invariant-loop-checkpoint g l =
-    discard l.i (g.C.Cut.gone l.cut l.i) (drop l.checkpoint-index l.checkpoints) (g.S.Store.model l.store)
-    ≡ discard l.i (g.C.Cut.gone l.cut l.i) l.checkpoints (g.S.Store.model l.initial.store)
+    discard l.cluster.own (g.C.Cut.gone l.cut l.cluster.own) (drop l.checkpoint-index l.checkpoint-items) (g.S.Store.model l.store)
+    ≡ discard l.cluster.own (g.C.Cut.gone l.cut l.cluster.own) l.checkpoint-items (g.S.Store.model l.initial.store)

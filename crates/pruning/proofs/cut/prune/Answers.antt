@@ -2,14 +2,8 @@
 use Rattle.std.proofs.Common.{◌≡◌, ℕ, vec_len, sym, ap, ◌∙◌, add-one, arith}
 use Rattle.law.specs.Restarts.{prune}
 use Rattle.book.specs.View.{view}
-use Rattle.book.proofs.Soundness.{is_sound_lem}
 use Rattle.pruning.specs.Cutting.{prune_at}
 use Rattle.pruning.proofs.cut.prune.Goals as goal
-
-pub overflow_cast-i : goal.overflow_cast-i
-overflow_cast-i g c =
-    let few = (is_sound_lem c.args.book.now c.requires).few in
-    omega arith
 
 pub loop-i-preserved : goal.loop-i-preserved
 loop-i-preserved g c =
@@ -20,16 +14,10 @@ loop-i-preserved g c =
     let done = c.prune_cluster.ensures in (
       done.after ∙ ap (prune_at change gone c.loop-i.i) inv.0 ∙ ap (λ (z : ℕ). prune change gone z first) (sym (add-one c.loop-i.i)),
       done.len ∙ inv.1,
-      done.sound,
     )
 
 pub returns : goal.returns
 returns g c =
-    let change = g.C.Cut.change c.args.cut.now in
-    let gone = g.C.Cut.gone c.args.cut.now in
     let first = view c.args.book.now (g.S.Store.model c.args.store.now) in
     let all : c.loop-i.i ≡ vec_len c.args.book.now.clusters = omega arith in
-    record {
-      after = c.loop-i.invariant.0 ∙ ap (λ (z : ℕ). prune change gone z first) all;
-      sound = c.loop-i.invariant.2;
-    }
+    c.loop-i.invariant.0 ∙ ap (λ (z : ℕ). prune (g.C.Cut.change c.args.cut.now) (g.C.Cut.gone c.args.cut.now) z first) all

@@ -1,8 +1,7 @@
 -- the clusters passed are pruned
-use Rattle.std.proofs.Common.{◌≡◌, true, vec_len}
+use Rattle.std.proofs.Common.{◌≡◌, vec_len}
 use Rattle.law.specs.Restarts.{prune}
 use Rattle.book.specs.View.{view}
-use Rattle.book.specs.Sound.{sound}
 use Rattle.pruning.proofs.cut.prune.Given as goal
 
 abbrev pub invariant-loop-i : goal.invariant-loop-i
@@ -10,4 +9,3 @@ invariant-loop-i g l =
     (view l.book (g.S.Store.model l.store)
     ≡ prune (g.C.Cut.change l.cut) (g.C.Cut.gone l.cut) l.i (view l.initial.book (g.S.Store.model l.initial.store)))
     × (vec_len l.book.clusters ≡ vec_len l.initial.book.clusters)
-    × (sound l.book ≡ true)

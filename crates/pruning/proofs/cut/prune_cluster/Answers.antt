@@ -1,34 +1,28 @@
--- one cluster changed in what the book shows
-use Rattle.std.proofs.Common.{◌≡◌, ◌<◌, List, length, vec_items, sym, refl, ap, ◌∙◌, arith}
-use Rattle.std.proofs.lemmas.List.{get_or_read}
-use Rattle.law.specs.declared.Checkpoint.{Checkpoint}
+-- one cluster changed in what the book shows, at the position that is its own
+use Rattle.std.proofs.Common.{◌≡◌, ℕ, vec_items, ap, ◌∙◌, arith}
 use Rattle.law.specs.Restarts.{discard}
-use Rattle.book.specs.declared.Cluster.{Cluster}
-use Rattle.book.proofs.Soundness.{cluster-sound, sound_with}
+use Rattle.book.specs.View.{group}
+use Rattle.book.proofs.Placing.{own_at, placed_set}
 use Rattle.pruning.proofs.Cutting.{prune-shown}
 use Rattle.pruning.proofs.cut.prune_cluster.Goals as goal
 
-pub change-requires : goal.change-requires
-change-requires g c =
+pub invariant_of-book-clause-placed : goal.invariant_of-book-clause-placed
+invariant_of-book-clause-placed g c =
     let b = c.args.book.now in
-    cluster-sound b c.args.i c.index_mut.result.now c.requires.sound c.requires.within c.index_mut.ensures.value
+    let len = b.clusters.ok.0 in
+    placed_set 0 (vec_items b.clusters) c.args.i c.index_mut-cluster.result.now c.change.new.cluster b.placed (omega arith) c.index_mut-cluster.ensures.value c.change.ensures.own
 
-pub returns : goal.returns
-returns g c =
+pub returns-clause-after : goal.returns-clause-after
+returns-clause-after g c =
     let b = c.args.book.now in
     let i = c.args.i in
-    let was = c.index_mut.result.now in
-    let new = c.change.new.cluster in
-    let len = b.clusters.ok.0 in
-    let in' : i < length (vec_items b.clusters) = omega arith in
-    let same : c.index.result.now ≡ was =
-    get_or_read (vec_items b.clusters) i c.index.result.now in' c.index.ensures was ∙ sym c.index_mut.ensures.value in
-    let rows : c.deref.result.now ≡ vec_items was.kept = c.deref.ensures.value ∙ ap (λ (z : Cluster). vec_items z.kept) same in
+    let was = c.index_mut-cluster.result.now in
+    let change = g.C.Cut.change c.args.cut.now in
     let gone = g.C.Cut.gone c.args.cut.now in
     let m = g.S.Store.model c.args.store.now in
-    record {
-      after = prune-shown (g.C.Cut.change c.args.cut.now) gone b m i was new c.requires.within c.index_mut.ensures.value c.change.ensures.after
-          (g.S.Store.model c.discard_rows.new.store) (c.discard_rows.ensures ∙ ap (λ (z : List Checkpoint). discard i (gone i) z m) rows);
-      len = refl;
-      sound = sound_with b _ i new c.requires.sound refl refl refl refl refl c.change.ensures.sound;
-    }
+    let len = b.clusters.ok.0 in
+    let own : was.own ≡ i = own_at 0 (vec_items b.clusters) i was b.placed (omega arith) c.index_mut-cluster.ensures.value ∙ omega arith in
+    prune-shown change gone b m i was c.change.new.cluster c.requires c.index_mut-cluster.ensures.value
+    (c.change.ensures.after ∙ ap (λ (k : ℕ). change k (group was)) own)
+    (g.S.Store.model c.discard_rows.new.store)
+    (c.discard_rows.ensures ∙ ap (λ (k : ℕ). discard k (gone k) (vec_items was.kept) m) own)

@@ -2,7 +2,7 @@
 use Rattle.std.proofs.Common.{length, sym, ap, ◌∙◌, arith, lit<}
 use Rattle.std.proofs.lemmas.List.{take_all}
 use Rattle.law.specs.Restarts.{to_go_again, again}
-use Rattle.book.specs.Sound.{id_of}
+use Rattle.book.specs.Rules.{id_of}
 use Rattle.pruning.proofs.Picking.{picked_few, picked_more, picked_same}
 use Rattle.pruning.proofs.log.again.Goals as goal
 use Rattle.pruning.proofs.log.again.Goals.{then-goes_again, else-goes_again}

@@ -6,14 +6,8 @@ use Rattle.law.specs.Book.{Cluster as Group, nobody}
 use Rattle.law.specs.Restarts.{place}
 use Rattle.book.specs.View.{group}
 use Rattle.book.proofs.Groups.{group_at}
-use Rattle.book.proofs.Soundness.{each_sound}
 use Rattle.recovery.specs.Called.{entry_of, called_in}
 use Rattle.recovery.proofs.alerts.called_to.Goals as goal
-
-pub called_in-requires-clause-ascends : goal.called_in-requires-clause-ascends
-called_in-requires-clause-ascends c =
-    let there = c.in_ok-cluster.ensures.lookup in
-    (each_sound 0 c.args.clusters.now c.requires.sound c.args.to c.in_ok-cluster.cluster.now (ltb-true c.args.to (length c.args.clusters.now) (sym there.0)) there.1).ascends
 
 pub returns-in_err-cluster : goal.returns-in_err-cluster
 returns-in_err-cluster c =

@@ -11,15 +11,15 @@ few-shown cs few = let many = length-map cs group in omega arith
 
 pub loop-from-smaller : goal.loop-from-smaller
 loop-from-smaller c =
-    step_less (map group c.args.clusters.now) (few-shown c.args.clusters.now c.requires.few) c.loop-from.restart c.carry.new.restart c.in-Some.from c.in-Some.to
+    step_less (map group c.args.clusters.now) (few-shown c.args.clusters.now c.requires) c.loop-from.restart c.carry.new.restart c.in-Some.from c.in-Some.to
     c.in-Some.ensures.value c.carry.ensures.after
 
 pub loop-from-preserved : goal.loop-from-preserved
 loop-from-preserved c =
-    step_same (map group c.args.clusters.now) (few-shown c.args.clusters.now c.requires.few) c.loop-from.restart c.carry.new.restart c.in-Some.from c.in-Some.to
+    step_same (map group c.args.clusters.now) (few-shown c.args.clusters.now c.requires) c.loop-from.restart c.carry.new.restart c.in-Some.from c.in-Some.to
     c.in-Some.ensures.value c.carry.ensures.after
     ∙ c.loop-from.invariant
 
 pub returns : goal.returns
 returns c =
-    sym (drained_none (map group c.args.clusters.now) (few-shown c.args.clusters.now c.requires.few) c.loop-from.restart c.in_default.ensures.value) ∙ c.loop-from.invariant
+    sym (drained_none (map group c.args.clusters.now) (few-shown c.args.clusters.now c.requires) c.loop-from.restart c.in_default.ensures.value) ∙ c.loop-from.invariant
