@@ -1,5 +1,5 @@
 -- rows are distinct, so the table holds what the first record under the key holds
-use Rattle.std.proofs.Common.{◌≡◌, ℕ, ◌+◌, ◌≤◌, List, Some, None, Option, vec_items, sym, ap, ◌∙◌, subst, arith}
+use Rattle.std.proofs.Common.{ℕ, ◌+◌, ◌≤◌, List, Some, None, Option, vec_items, sym, ap, ◌∙◌, subst, arith}
 use Rattle.std.specs.Option.{option_map}
 use Rattle.records.specs.declared.Held.{Held}
 use Rattle.records.specs.Layout.{size_of, row_in}
