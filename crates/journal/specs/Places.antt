@@ -4,9 +4,8 @@
 --   Distinct  no two rows stand under one cluster and number
 --   Lie       each held row's record stands where it is said to
 --   Few       each has at most 32 words
---   Sound     all of that, the memory for 64 rows is reserved, and the rows make a formed table
-use Rattle.std.specs.Prelude.{◌≡◌, ℕ, ◌+◌, ◌≤◌, List, [], ◌∷◌, map, length, take, None, vec_items, vec_capacity}
-use Rattle.std.specs.Global.{Vec}
+--   Sound     all of that of the bytes of records and the places in them, and their rows make a formed table
+use Rattle.std.specs.Prelude.{◌≡◌, ℕ, ◌+◌, ◌≤◌, List, [], ◌∷◌, map, None}
 use Rattle.std.proofs.Props.{props}
 use Rattle.store.specs.Table.{TableRow, Model, lookup}
 use Rattle.store.specs.Formed.{Formed}
@@ -31,18 +30,14 @@ Few (h ∷ hs) = (h.count ≤ 32) × Few hs
 abbrev pub table_of : List TableRow → Model
 table_of rows = record { table = sort_rows rows; capacity = 64; full = 0 }
 
-pub record Sound (bytes : List ℕ) (end : ℕ) (held index : Vec Held) : Type 0 where
-  pub size : length bytes ≡ 16832
-  pub used : end ≤ 16832
-  pub held_room : 64 ≤ vec_capacity held
-  pub index_room : 64 ≤ vec_capacity index
-  pub laid : Laid 0 (vec_items held) end
-  pub lie : Lie (take end bytes) (vec_items held)
-  pub few : Few (vec_items held)
-  pub distinct : Distinct (map (row_in (take end bytes)) (vec_items held))
-  pub formed : Formed (table_of (map (row_in (take end bytes)) (vec_items held)))
+pub record Sound (bytes : List ℕ) (end : ℕ) (held index : List Held) : Type 0 where
+  pub laid : Laid 0 held end
+  pub lie : Lie bytes held
+  pub few : Few held
+  pub distinct : Distinct (map (row_in bytes) held)
+  pub formed : Formed (table_of (map (row_in bytes) held))
   -- the index shows the same rows in order, whatever the bytes are
-  pub shown : (xs : List ℕ) → map (row_in xs) (vec_items index) ≡ sort_rows (map (row_in xs) (vec_items held))
+  pub shown : (xs : List ℕ) → map (row_in xs) index ≡ sort_rows (map (row_in xs) held)
 
 -- a fact in a type has to have one proof at most
 distinct_prop : (rows : List TableRow) → IsProp (Distinct rows)
@@ -61,6 +56,6 @@ laid_prop : (hs : List Held) (from end : ℕ) → IsProp (Laid from hs end)
 laid_prop [] from end = hlevel props
 laid_prop (h ∷ hs) from end = hlevel (props, laid_prop hs (h.at + size_of h.count) end)
 
-pub sound_prop : (bytes : List ℕ) (end : ℕ) (held index : Vec Held) → IsProp (Sound bytes end held index)
+pub sound_prop : (bytes : List ℕ) (end : ℕ) (held index : List Held) → IsProp (Sound bytes end held index)
 sound_prop bytes end held index =
-    hlevel (props, laid_prop (vec_items held) 0 end, lie_prop (take end bytes) (vec_items held), few_prop (vec_items held), distinct_prop (map (row_in (take end bytes)) (vec_items held)))
+    hlevel (props, laid_prop held 0 end, lie_prop bytes held, few_prop held, distinct_prop (map (row_in bytes) held))

@@ -2,6 +2,7 @@
 // when one does not fit, only the records of the rows that are held stay, oldest first.
 #![tactic(auto)]
 
+ghost use Rattle.std.specs.Prelude.{◌≡◌, ◌≤◌, length, take, vec_capacity};
 ghost use Rattle.journal.specs.Places.{Sound, sound_prop};
 
 use records::{
@@ -34,7 +35,11 @@ pub struct Journal<'a> {
     held: Vec<Held>,
     // the same records in order of cluster, then number
     index: Vec<Held>,
-    ghost sound: { Sound bytes.now used held index } by { sound_prop bytes.now used held index },
+    ghost size: { length bytes.now ≡ 16832 },
+    ghost within: { used ≤ 16832 },
+    ghost held_room: { 64 ≤ vec_capacity held },
+    ghost index_room: { 64 ≤ vec_capacity index },
+    ghost sound: { Sound (take used bytes.now) used held.items index.items } by { sound_prop (take used bytes.now) used held.items index.items },
 }
 
 impl<'a> Journal<'a> {

@@ -17,8 +17,8 @@ impl From<AllocError> for MakeRefusal {
 
     ghost from_gives = { λ _ why. why ≡ Memory };
 
-    fn from(_: AllocError) -> MakeRefusal {
-        MakeRefusal::Memory
+    fn from(_: AllocError) -> Self {
+        Self::Memory
     }
 }
 

@@ -48,10 +48,6 @@ pub record Moved (b : List ℕ) (hs : List Held) (i : ℕ) (bytes : List ℕ) (h
   pub laid : Laid reach (drop i hs) (length b)
   pub rest : drop reach bytes ≡ drop reach b
 
-pub moved_none : (b : List ℕ) (hs : List Held) → Laid 0 hs (length b) → Moved b hs 0 b hs 0
-moved_none b hs l =
-    record { done = refl; size = refl; front = refl; long = refl; reach = 0; low = omega arith; laid = l; rest = refl }
-
 module _ {b : List ℕ} {hs : List Held} {i : ℕ} {bytes : List ℕ} {held : List Held} {end : ℕ} (m : Moved b hs i bytes held end) (within : i < length hs) (d : Held) where
   front_length : length (relaid 0 (take i hs)) ≡ i
   front_length = length-relaid 0 (take i hs) ∙ length-take-le i hs (omega arith)

@@ -2,13 +2,12 @@
 // tables after every call.
 #![tactic(auto)]
 
-use anyhow::anyhow;
-use calls::Calls;
-use drive::{Run, lockstep};
-use journal::{Journal, MakeRefusal};
+use anyhow::{Result, anyhow};
+use drive::Run;
+use journal::Journal;
 use pair::Pair;
 use slots::Slots;
-use std::alloc::{AllocError, Global};
+use std::alloc::Global;
 use store::{SidedStore, Store};
 
 mod calls;
@@ -16,38 +15,20 @@ mod drive;
 
 const TURNS: u32 = 400;
 
-#[derive(Clone, Copy, Debug)]
-enum Unmade {
-    NoMemory,
-    NoJournal,
+fn make_slots(heap: Global) -> Result<Slots> {
+    Slots::new(heap).map_err(|_| anyhow!("no memory"))
 }
 
-impl From<AllocError> for Unmade {
-    fn from(_: AllocError) -> Unmade {
-        Unmade::NoMemory
-    }
+fn make_journal(heap: Global, bytes: &mut [u8]) -> Result<Journal<'_>> {
+    Journal::new(heap, bytes).map_err(|_| anyhow!("no journal"))
 }
 
-impl From<MakeRefusal> for Unmade {
-    fn from(_: MakeRefusal) -> Unmade {
-        Unmade::NoJournal
-    }
-}
-
-fn start() -> Run {
-    Run {
-        alike: true,
-        digest: 1,
-        accepted: 0,
-        refused: 0,
-    }
-}
-
-fn slots_and_journal(heap: Global, bytes: &mut [u8]) -> Result<Run, Unmade> {
-    let mut slots = Slots::new(heap)?;
-    let mut journal = Journal::new(heap, bytes)?;
-    let mut calls = Calls::new(1);
-    Ok(lockstep(&mut slots, &mut journal, &mut calls, 5 * TURNS, start()))
+fn slots_and_journal(heap: Global, bytes: &mut [u8]) -> Result<Run> {
+    let mut slots = make_slots(heap)?;
+    let mut journal = make_journal(heap, bytes)?;
+    let mut run = Run::new(1);
+    run.turns(&mut slots, &mut journal, 5 * TURNS);
+    Ok(run)
 }
 
 // Calls while all sides stand, while the first is out, while all stand again, and so with the second.
@@ -55,61 +36,40 @@ fn with_losses<A: Store, B: SidedStore>(a: &mut A, b: &mut B) -> Run
     requires a_sound { A.Store.sound a.old }
     requires b_sound { B.Store.sound b.old }
 {
-    let mut calls = Calls::new(2);
-    let mut run = lockstep(a, b, &mut calls, TURNS, start());
+    let mut run = Run::new(2);
+    run.turns(a, b, TURNS);
     let _ = b.lose(1);
-    run = lockstep(a, b, &mut calls, TURNS, run);
+    run.turns(a, b, TURNS);
     let _ = b.rebuild(1);
-    run = lockstep(a, b, &mut calls, TURNS, run);
+    run.turns(a, b, TURNS);
     let _ = b.lose(2);
-    run = lockstep(a, b, &mut calls, TURNS, run);
+    run.turns(a, b, TURNS);
     let _ = b.rebuild(2);
-    lockstep(a, b, &mut calls, TURNS, run)
+    run.turns(a, b, TURNS);
+    run
 }
 
-fn slots_and_pair(heap: Global, bytes: &mut [u8]) -> Result<Run, Unmade> {
-    let mut slots = Slots::new(heap)?;
-    let mut pair = Pair::new(Slots::new(heap)?, Journal::new(heap, bytes)?);
+fn slots_and_pair(heap: Global, bytes: &mut [u8]) -> Result<Run> {
+    let mut slots = make_slots(heap)?;
+    let mut pair = Pair::new(make_slots(heap)?, make_journal(heap, bytes)?);
     Ok(with_losses(&mut slots, &mut pair))
 }
 
-fn slots_and_nested(heap: Global, bytes: &mut [u8]) -> Result<Run, Unmade> {
-    let mut slots = Slots::new(heap)?;
-    let inner = Pair::new(Slots::new(heap)?, Slots::new(heap)?);
-    let mut nested = Pair::new(inner, Journal::new(heap, bytes)?);
+fn slots_and_nested(heap: Global, bytes: &mut [u8]) -> Result<Run> {
+    let mut slots = make_slots(heap)?;
+    let inner = Pair::new(make_slots(heap)?, make_slots(heap)?);
+    let mut nested = Pair::new(inner, make_journal(heap, bytes)?);
     Ok(with_losses(&mut slots, &mut nested))
 }
 
-fn show(rt: &impl Print, name: &str, run: Run) -> anyhow::Result<()> {
-    let alike = if run.alike { "alike" } else { "NOT ALIKE" };
-    let accepted = run.accepted;
-    let refused = run.refused;
-    let digest = run.digest;
-    println!(rt; "{name}: {alike}, {accepted} accepted, {refused} refused, digest {digest:016x}")?;
-    Ok(())
-}
-
-fn reason(why: Unmade) -> anyhow::Error {
-    match why {
-        Unmade::NoMemory => anyhow!("no memory"),
-        Unmade::NoJournal => anyhow!("no journal"),
-    }
-}
-
-fn main(rt: HostRuntime) -> anyhow::Result<()> {
+fn main(rt: HostRuntime) -> Result<()> {
     let heap = rt.alloc();
     let mut bytes = vec![in heap; 0u8; 16832]?;
-    match slots_and_journal(heap, bytes.as_mut_slice()) {
-        Ok(run) => show(&rt, "slots and journal", run)?,
-        Err(why) => return Err(reason(why)),
-    }
-    match slots_and_pair(heap, bytes.as_mut_slice()) {
-        Ok(run) => show(&rt, "slots and pair", run)?,
-        Err(why) => return Err(reason(why)),
-    }
-    match slots_and_nested(heap, bytes.as_mut_slice()) {
-        Ok(run) => show(&rt, "slots and nested pair", run)?,
-        Err(why) => return Err(reason(why)),
-    }
+    let run = slots_and_journal(heap, bytes.as_mut_slice())?;
+    println!(rt; "slots and journal: {run}")?;
+    let run = slots_and_pair(heap, bytes.as_mut_slice())?;
+    println!(rt; "slots and pair: {run}")?;
+    let run = slots_and_nested(heap, bytes.as_mut_slice())?;
+    println!(rt; "slots and nested pair: {run}")?;
     Ok(())
 }

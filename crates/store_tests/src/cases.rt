@@ -1,5 +1,6 @@
-// Calls on a store that begins empty, each with the letter of its refusal, or '.'.
+// Calls on a store that begins empty, each with its answer but for what that tells.
 use refusal::StoreRefusal;
+use refusal::StoreRefusal::{Held, NotHeld, WordCount};
 use store::Store;
 
 #[derive(Clone, Copy)]
@@ -10,66 +11,51 @@ enum Call {
     Position(usize),
 }
 
-static CASES: [(Call, char); 16] = [
-    (Call::Position(0), 'w'),
-    (Call::Keep(1, 1, 0), 'w'),
-    (Call::Keep(1, 1, 33), 'w'),
-    (Call::Keep(1, 1, 32), '.'),
-    (Call::Keep(1, 1, 1), 'h'),
-    (Call::Keep(0, 9, 3), '.'),
-    (Call::Position(1), '.'),
-    (Call::Position(2), 'w'),
-    (Call::Read(1, 1, 31), 'w'),
-    (Call::Read(1, 1, 32), '.'),
-    (Call::Read(1, 2, 0), 'm'),
-    (Call::Read(0, 9, 2), 'w'),
-    (Call::Discard(1, 2), 'm'),
-    (Call::Discard(1, 1), '.'),
-    (Call::Discard(1, 1), 'm'),
-    (Call::Discard(0, 9), '.'),
+static CASES: [(Call, Result<(), StoreRefusal>); 16] = [
+    (Call::Position(0), Err(WordCount)),
+    (Call::Keep(1, 1, 0), Err(WordCount)),
+    (Call::Keep(1, 1, 33), Err(WordCount)),
+    (Call::Keep(1, 1, 32), Ok(())),
+    (Call::Keep(1, 1, 1), Err(Held)),
+    (Call::Keep(0, 9, 3), Ok(())),
+    (Call::Position(1), Ok(())),
+    (Call::Position(2), Err(WordCount)),
+    (Call::Read(1, 1, 31), Err(WordCount)),
+    (Call::Read(1, 1, 32), Ok(())),
+    (Call::Read(1, 2, 0), Err(NotHeld)),
+    (Call::Read(0, 9, 2), Err(WordCount)),
+    (Call::Discard(1, 2), Err(NotHeld)),
+    (Call::Discard(1, 1), Ok(())),
+    (Call::Discard(1, 1), Err(NotHeld)),
+    (Call::Discard(0, 9), Ok(())),
 ];
 
-fn letter<T>(answer: Result<T, StoreRefusal>) -> char
-where
-    T: Drop,
-{
-    match answer {
-        Ok(_) => '.',
-        Err(why) => why.letter(),
-    }
-}
-
-fn make<S: Store>(store: &mut S, call: Call) -> char
+fn make<S: Store>(store: &mut S, call: Call) -> Result<(), StoreRefusal>
     requires { S.Store.sound store.old }
     ensures { S.Store.sound store.new }
 {
     let words = [5; 40];
     let mut buffer = [0; 40];
     match call {
-        Call::Keep(cluster, number, count) => letter(store.keep(
-            cluster,
-            number,
-            &words[0..count.min(40)],
-        )),
-        Call::Discard(cluster, number) => letter(store.discard(cluster, number)),
-        Call::Read(cluster, number, room) => letter(store.read(
-            cluster,
-            number,
-            &mut buffer[0..room.min(40)],
-        )),
-        Call::Position(at) => letter(store.position(at)),
+        Call::Keep(cluster, number, count) => {
+            store.keep(cluster, number, &words[0..count.min(40)])
+        }
+        Call::Discard(cluster, number) => store.discard(cluster, number),
+        Call::Read(cluster, number, room) => store
+            .read(cluster, number, &mut buffer[0..room.min(40)])
+            .map(|_| ()),
+        Call::Position(at) => store.position(at).map(|_| ()),
     }
 }
 
-// The first case that answers another letter, with that letter.
-pub fn answers<S: Store>(store: &mut S) -> Option<(usize, char)>
+// The first case that answers otherwise, with that answer.
+pub fn answers<S: Store>(store: &mut S) -> Option<(usize, Result<(), StoreRefusal>)>
     requires { S.Store.sound store.old }
     ensures { S.Store.sound store.new }
 {
-    for i in 0..16 {
-        let (call, expected) = CASES[i];
-        let told = make(store, call);
-        if told != expected {
+    for (i, (call, expected)) in CASES.iter().enumerate() {
+        let told = make(store, *call);
+        if told != *expected {
             return Some((i, told));
         }
     }

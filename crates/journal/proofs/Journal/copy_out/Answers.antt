@@ -29,8 +29,8 @@ returns c =
     let b = c.args.buffer.now in
     let long : length ws ≡ h.count = length-words_in h.count _ in
     let fits = fits_read ws h.count (length b) long (omega arith) in
-    let size = c.args.self.now.sound.size in
-    let low = c.args.self.now.sound.used in
+    let size = c.args.self.now.size in
+    let low = c.args.self.now.within in
     let there = words_there bytes c.args.self.now.used h.at h.count _ c.requires (omega arith) (omega arith) in
     record {
       answer = ap Ok (sym long) ∙ sym (ap (λ (why : Option StoreRefusal). replied why (length ws)) fits);

@@ -36,16 +36,14 @@ remove-requires c =
 pub reindex-requires : goal.reindex-requires
 reindex-requires c =
     let j = c.args.self.now in
-    omega (arith, held_most j, j.sound.index_room, c.remove.ensures.len, c.as_slice-2.ensures.len)
+    omega (arith, held_most j, j.index_room, c.remove.ensures.len, c.as_slice-2.ensures.len)
 
-pub invariant_of-self-2 : goal.invariant_of-self-2
-invariant_of-self-2 c =
+pub invariant_of-self-2-clause-sound : goal.invariant_of-self-2-clause-sound
+invariant_of-self-2-clause-sound c =
     let j = c.args.self.now in
     let there = first_in (records_of j) (vec_items j.held) _ c.args.key.cluster c.args.key.number (Some c.in-Some.i) c.as_slice.ensures.value c.in-Some.ensures in
-    record {
-      sound = (forget_step j c.remove.new.self c.reindex.new.index c.args.key.cluster c.args.key.number c.in-Some.i there.0 there.2 c.remove.ensures.items (omega (arith, c.remove.ensures.capacity)) c.reindex.ensures.capacity
-          (λ xs. c.reindex.ensures.rows xs ∙ ap (λ (hs : List Held). sort_rows (map (row_in xs) hs)) c.as_slice-2.ensures.value)).1;
-    }
+    (forget_step j c.args.key.cluster c.args.key.number c.in-Some.i there.0 there.2 c.remove.ensures.items
+    (λ xs. c.reindex.ensures.rows xs ∙ ap (λ (hs : List Held). sort_rows (map (row_in xs) hs)) c.as_slice-2.ensures.value)).1
 
 pub returns-clause-answer : goal.returns-clause-answer
 returns-clause-answer c =
@@ -57,5 +55,5 @@ pub returns-clause-rows : goal.returns-clause-rows
 returns-clause-rows c =
     let j = c.args.self.now in
     let there = first_in (records_of j) (vec_items j.held) _ c.args.key.cluster c.args.key.number (Some c.in-Some.i) c.as_slice.ensures.value c.in-Some.ensures in
-    (forget_step j c.remove.new.self c.reindex.new.index c.args.key.cluster c.args.key.number c.in-Some.i there.0 there.2 c.remove.ensures.items (omega (arith, c.remove.ensures.capacity)) c.reindex.ensures.capacity
+    (forget_step j c.args.key.cluster c.args.key.number c.in-Some.i there.0 there.2 c.remove.ensures.items
     (λ xs. c.reindex.ensures.rows xs ∙ ap (λ (hs : List Held). sort_rows (map (row_in xs) hs)) c.as_slice-2.ensures.value)).0

@@ -17,6 +17,6 @@ returns c =
     c.ok_or.ensures.value
     ∙ ap (λ (key : Option RowKey). ok_or key WordCount)
     (c.key_at.ensures
-      ∙ ap (λ (xs : List Held). option_map held_key (slice_get xs c.args.at)) c.as_slice.ensures.value
-      ∙ key_map (row_in (records_of j)) (vec_items j.index) c.args.at
-      ∙ ap (λ (rows : List TableRow). row_at rows c.args.at) (j.sound.shown (records_of j)))
+    ∙ ap (λ (xs : List Held). option_map held_key (slice_get xs c.args.at)) c.as_slice.ensures.value
+    ∙ key_map (row_in (records_of j)) (vec_items j.index) c.args.at
+    ∙ ap (λ (rows : List TableRow). row_at rows c.args.at) (j.sound.shown (records_of j)))

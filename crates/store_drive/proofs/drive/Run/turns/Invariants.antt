@@ -1,5 +1,5 @@
 -- what lasts from call to call
-use Rattle.store_drive.proofs.drive.lockstep.Given as goal
+use Rattle.store_drive.proofs.drive.Run.turns.Given as goal
 
 -- both stay sound
 abbrev pub invariant-loop : goal.invariant-loop
