@@ -1,21 +1,20 @@
 // A long sequence of calls that is the same on every run.
 ghost use Rattle.std.specs.Prelude.{◌<◌, ◌≤◌};
 
+use store::RowKey;
+
 #[derive(Clone, Copy)]
 pub enum Call {
     Keep {
-        cluster: u8,
-        number: u32,
+        key: RowKey,
         count: usize,
         seed: u64,
     },
     Discard {
-        cluster: u8,
-        number: u32,
+        key: RowKey,
     },
     Read {
-        cluster: u8,
-        number: u32,
+        key: RowKey,
         room: usize,
     },
     Position {
@@ -53,19 +52,19 @@ impl Calls {
     // count or a buffer that is refused.
     pub fn next(&mut self) -> Call {
         let kind = self.below(8);
-        let cluster = self.below(5) as u8;
-        let number = self.below(18) as u32 + 1;
+        let key = RowKey {
+            cluster: self.below(5) as u8,
+            number: self.below(18) as u32 + 1,
+        };
         match kind {
             0 | 1 | 2 | 3 => Call::Keep {
-                cluster,
-                number,
+                key,
                 count: self.below(35) as usize,
                 seed: self.state,
             },
-            4 | 5 => Call::Discard { cluster, number },
+            4 | 5 => Call::Discard { key },
             6 => Call::Read {
-                cluster,
-                number,
+                key,
                 room: self.below(33) as usize,
             },
             _ => Call::Position {

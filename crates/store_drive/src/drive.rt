@@ -55,65 +55,41 @@ fn answer_number(answer: Answer) -> u64 {
     }
 }
 
-fn keep<S: Store>(store: &mut S, cluster: u8, number: u32, count: usize, seed: u64) -> Answer
-    requires { S.Store.sound store.old }
-    ensures { S.Store.sound store.new }
-{
+fn keep<S: Store>(store: &mut S, key: RowKey, count: usize, seed: u64) -> Answer {
     let mut words = [0; 40];
     fill_words(&mut words, seed);
-    store.keep(cluster, number, &words[0..count.min(40)])?;
+    store.keep(key, &words[0..count.min(40)])?;
     Ok(0)
 }
 
 // The whole buffer counts, so that a rest that changed is seen.
-fn read_into<S: Store>(store: &S, cluster: u8, number: u32, buffer: &mut [u64]) -> Answer
-    requires { S.Store.sound store.now }
-{
-    let count = store.read(cluster, number, buffer)?;
+fn read_into<S: Store>(store: &S, key: RowKey, buffer: &mut [u64]) -> Answer {
+    let count = store.read(key, buffer)?;
     Ok(mix(count as u64, sum_words(buffer)))
 }
 
-fn read<S: Store>(store: &S, cluster: u8, number: u32, room: usize) -> Answer
-    requires { S.Store.sound store.now }
-{
+fn read<S: Store>(store: &S, key: RowKey, room: usize) -> Answer {
     let mut buffer = [7; 40];
-    read_into(store, cluster, number, &mut buffer[0..room.min(40)])
+    read_into(store, key, &mut buffer[0..room.min(40)])
 }
 
-fn make<S: Store>(store: &mut S, call: Call) -> Answer
-    requires { S.Store.sound store.old }
-    ensures { S.Store.sound store.new }
-{
+fn make<S: Store>(store: &mut S, call: Call) -> Answer {
     let answer = match call {
-        Call::Keep {
-            cluster,
-            number,
-            count,
-            seed,
-        } => keep(store, cluster, number, count, seed),
-        Call::Discard { cluster, number } => store.discard(cluster, number).map(|()| 0),
-        Call::Read {
-            cluster,
-            number,
-            room,
-        } => read(store, cluster, number, room),
+        Call::Keep { key, count, seed } => keep(store, key, count, seed),
+        Call::Discard { key } => store.discard(key).map(|()| 0),
+        Call::Read { key, room } => read(store, key, room),
         Call::Position { at } => store.position(at).map(key_number),
     };
     answer.map_err(sideless)
 }
 
 // A number made of all rows of a store.
-fn table_digest<S: Store>(store: &S) -> u64
-    requires { S.Store.sound store.now }
-{
+fn table_digest<S: Store>(store: &S) -> u64 {
     let mut digest = 0;
     for at in 0..store.count() {
         if let Ok(key) = store.position(at) {
             digest = mix(digest, key_number(key));
-            digest = mix(
-                digest,
-                read(store, key.cluster, key.number, 32).unwrap_or(0),
-            );
+            digest = mix(digest, read(store, key, 32).unwrap_or(0));
         }
     }
     digest
@@ -131,24 +107,14 @@ impl Run {
     }
 
     // Makes so many calls on both.
-    pub fn turns<A: Store, B: Store>(&mut self, a: &mut A, b: &mut B, count: u32)
-        requires a_sound { A.Store.sound a.old }
-        requires b_sound { B.Store.sound b.old }
-        ensures a_sound { A.Store.sound a.new }
-        ensures b_sound { B.Store.sound b.new }
-    {
+    pub fn turns<A: Store, B: Store>(&mut self, a: &mut A, b: &mut B, count: u32) {
         for _ in 0..count {
             let call = self.calls.next();
             self.turn(a, b, call);
         }
     }
 
-    fn turn<A: Store, B: Store>(&mut self, a: &mut A, b: &mut B, call: Call)
-        requires a_sound { A.Store.sound a.old }
-        requires b_sound { B.Store.sound b.old }
-        ensures a_sound { A.Store.sound a.new }
-        ensures b_sound { B.Store.sound b.new }
-    {
+    fn turn<A: Store, B: Store>(&mut self, a: &mut A, b: &mut B, call: Call) {
         let answer = make(a, call);
         let other = make(b, call);
         let table = table_digest(a);

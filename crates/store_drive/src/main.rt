@@ -32,10 +32,7 @@ fn slots_and_journal(heap: Global, bytes: &mut [u8]) -> Result<Run> {
 }
 
 // Calls while all sides stand, while the first is out, while all stand again, and so with the second.
-fn with_losses<A: Store, B: SidedStore>(a: &mut A, b: &mut B) -> Run
-    requires a_sound { A.Store.sound a.old }
-    requires b_sound { B.Store.sound b.old }
-{
+fn with_losses<A: Store, B: SidedStore>(a: &mut A, b: &mut B) -> Run {
     let mut run = Run::new(2);
     run.turns(a, b, TURNS);
     let _ = b.lose(1);

@@ -1,7 +1,7 @@
 // Calls on a store that begins empty, each with its answer but for what that tells.
 use refusal::StoreRefusal;
 use refusal::StoreRefusal::{Held, NotHeld, WordCount};
-use store::Store;
+use store::{RowKey, Store};
 
 #[derive(Clone, Copy)]
 enum Call {
@@ -30,29 +30,23 @@ static CASES: [(Call, Result<(), StoreRefusal>); 16] = [
     (Call::Discard(0, 9), Ok(())),
 ];
 
-fn make<S: Store>(store: &mut S, call: Call) -> Result<(), StoreRefusal>
-    requires { S.Store.sound store.old }
-    ensures { S.Store.sound store.new }
-{
+fn make<S: Store>(store: &mut S, call: Call) -> Result<(), StoreRefusal> {
     let words = [5; 40];
     let mut buffer = [0; 40];
     match call {
         Call::Keep(cluster, number, count) => {
-            store.keep(cluster, number, &words[0..count.min(40)])
+            store.keep(RowKey { cluster, number }, &words[0..count.min(40)])
         }
-        Call::Discard(cluster, number) => store.discard(cluster, number),
+        Call::Discard(cluster, number) => store.discard(RowKey { cluster, number }),
         Call::Read(cluster, number, room) => store
-            .read(cluster, number, &mut buffer[0..room.min(40)])
+            .read(RowKey { cluster, number }, &mut buffer[0..room.min(40)])
             .map(|_| ()),
         Call::Position(at) => store.position(at).map(|_| ()),
     }
 }
 
 // The first case that answers otherwise, with that answer.
-pub fn answers<S: Store>(store: &mut S) -> Option<(usize, Result<(), StoreRefusal>)>
-    requires { S.Store.sound store.old }
-    ensures { S.Store.sound store.new }
-{
+pub fn answers<S: Store>(store: &mut S) -> Option<(usize, Result<(), StoreRefusal>)> {
     for (i, (call, expected)) in CASES.iter().enumerate() {
         let told = make(store, *call);
         if told != *expected {
@@ -63,12 +57,15 @@ pub fn answers<S: Store>(store: &mut S) -> Option<(usize, Result<(), StoreRefusa
 }
 
 // Keeps a row under every number up to 64, and then one more.
-pub fn filled<S: Store>(store: &mut S) -> Result<(), StoreRefusal>
-    requires { S.Store.sound store.old }
-    ensures { S.Store.sound store.new }
-{
+pub fn filled<S: Store>(store: &mut S) -> Result<(), StoreRefusal> {
     for number in 1..65 {
-        store.keep(3, number, &[9])?;
+        store.keep(RowKey { cluster: 3, number }, &[9])?;
     }
-    store.keep(3, 65, &[9])
+    store.keep(
+        RowKey {
+            cluster: 3,
+            number: 65,
+        },
+        &[9],
+    )
 }

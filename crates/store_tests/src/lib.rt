@@ -12,7 +12,7 @@ mod tests {
     use refusal::StoreRefusal;
     use slots::Slots;
     use std::test::Fail;
-    use store::{SidedStore, Store};
+    use store::{RowKey, SidedStore, Store};
 
     #[test]
     fn slots_answer(rt: HostRuntime) -> Result<(), Fail> {
@@ -61,7 +61,16 @@ mod tests {
         let inner = Pair::new(Slots::new(rt.alloc())?, Slots::new(rt.alloc())?);
         let journal = Journal::new(rt.alloc(), bytes.as_mut_slice())?;
         let mut nested = Pair::new(inner, journal);
-        assert_eq!(rt; nested.keep(1, 2, &[7, 8]), Ok(()));
+        assert_eq!(rt;
+            nested.keep(
+                RowKey {
+                    cluster: 1,
+                    number: 2,
+                },
+                &[7, 8],
+            ),
+            Ok(())
+        );
         assert_eq!(rt; nested.lose(3), Err(StoreRefusal::NoSide));
         assert_eq!(rt; nested.rebuild(1), Err(StoreRefusal::SideOut));
         assert_eq!(rt; nested.lose(1), Ok(()));
