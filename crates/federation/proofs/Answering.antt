@@ -1,12 +1,12 @@
 -- A node that may not answer is refused for the same reason by the protocol; and what a store answers is what its keep was refused for.
-use Rattle.std.proofs.Common.{◌≡◌, ℕ, Bool, true, false, cond, ltb, get_or, is_some, Some, None, Ok, Err, Option, Result, refl, arith}
+use Rattle.std.proofs.Common.{◌≡◌, ℕ, suc, Bool, true, false, not, cond, ltb, List, [], ◌∷◌, map, length, filter, get_or, slice_index, slice_index_or, EachIndex, unwrap_or, is_some, Some, None, Ok, Err, Option, Result, refl, ap, ap₂, arith}
 use Rattle.refusal.specs.declared.Refusal.{Refusal}
 use Rattle.refusal.specs.declared.Refusal.TheVariants as refuses
 use Rattle.refusal.specs.declared.StoreRefusal.{StoreRefusal}
 use Rattle.store.specs.Table.{answered as kept, unless}
 use Rattle.law.specs.declared.Round.{Round}
-use Rattle.law.specs.Book.{Book, at, count}
-use Rattle.law.specs.Rounds.{from_store, answer_refusal, answer_at}
+use Rattle.law.specs.Book.{Book, at, count, or_zero}
+use Rattle.law.specs.Rounds.{from_store, answer_refusal, answer_at, missing}
 use Rattle.federation.specs.Answerable.{answerable, unanswered}
 
 pub kept_none : (o : Option StoreRefusal) → Ok tt ≡ kept o → from_store o ≡ None
@@ -43,3 +43,17 @@ module _ (b : Book) (i rank word : ℕ) where
 pub kept_same : {A : Type 0} (o : Option StoreRefusal) (why : StoreRefusal) (was new : A) → Err why ≡ kept o → unless o was new ≡ was
 kept_same None why was new e = let z : ◌≡◌ {A = ℕ} 0 1 = cc in absurd (omega arith)
 kept_same (Some other) why was new e = refl
+
+-- as many answers lack as are none
+pub lacking_kept : (xs : List (Option ℕ)) → length (filter (λ o. not (is_some o)) xs) ≡ missing xs
+lacking_kept [] = refl
+lacking_kept (Some w ∷ xs) = lacking_kept xs
+lacking_kept (None ∷ xs) = ap suc (lacking_kept xs)
+
+-- the words that stand for answers, place by place
+pub words_are : (ws : List ℕ) (xs : List (Option ℕ)) → length xs ≡ length ws → EachIndex ws (λ i. slice_index ws i ≡ unwrap_or (slice_index_or xs i None) 0) → ws ≡ map or_zero xs
+words_are [] [] same h = refl
+words_are [] (x ∷ xs) same h = absurd (omega arith)
+words_are (w ∷ ws) [] same h = absurd (omega arith)
+words_are (w ∷ ws) (Some v ∷ xs) same h = ap₂ (λ (a : ℕ) (l : List ℕ). a ∷ l) (h 0 (omega arith)) (words_are ws xs (omega arith) (λ i k. h (suc i) (omega arith)))
+words_are (w ∷ ws) (None ∷ xs) same h = ap₂ (λ (a : ℕ) (l : List ℕ). a ∷ l) (h 0 (omega arith)) (words_are ws xs (omega arith) (λ i k. h (suc i) (omega arith)))

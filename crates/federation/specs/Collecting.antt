@@ -9,19 +9,18 @@ use Rattle.std.specs.Prelude.{ℕ, ◌-◌, List, length, take, Ok, Err, Result}
 use Rattle.refusal.specs.declared.Refusal.{Refusal}
 use Rattle.law.specs.Book.{Book, count}
 use Rattle.law.specs.Trials.{Collected as Spent, bounds, collected, kept_in}
-use Rattle.book.specs.Listed.{listed}
 use Rattle.federation.specs.declared.told.Resumed.{Resumed}
 use Rattle.federation.specs.declared.told.Collected.{Collected}
 
 abbrev pub resumed_of : Resumed → List ℕ × List ℕ
-resumed_of r = (listed r.places, listed r.ids)
+resumed_of r = (r.places.items, r.ids.items)
 
 abbrev pub resume_told : Result Resumed Refusal → Result (List ℕ × List ℕ) Refusal
 resume_told (Ok r) = Ok (resumed_of r)
 resume_told (Err why) = Err why
 
 abbrev pub collected_of : Collected → Spent
-collected_of c = record { bounds = listed c.bounds; checkpoints = c.checkpoints; messages = c.messages }
+collected_of c = record { bounds = c.bounds.items; checkpoints = c.checkpoints; messages = c.messages }
 
 abbrev pub collect_told : Result Collected Refusal → Result Spent Refusal
 collect_told (Ok c) = Ok (collected_of c)

@@ -1,6 +1,5 @@
 // Rounds as values: how one begins, and what its nodes have answered.
-ghost use Rattle.std.specs.Prelude.{◌≡◌, ◌<◌, ◌≤◌, map, length, Some, slice_set};
-ghost use Rattle.law.specs.Book.{or_zero};
+ghost use Rattle.std.specs.Prelude.{◌≡◌, ◌<◌, ◌≤◌, length, Some, None, slice_index, slice_index_or, slice_set, unwrap_or, EachIndex};
 ghost use Rattle.law.specs.Messages.{new_round as fresh_round};
 ghost use Rattle.law.specs.Rounds.{requested as asked, missing as lacking};
 
@@ -52,22 +51,12 @@ pub(crate) fn missing(answers: &[Option<u64>]) -> u8
     requires { length answers.now ≤ 32 }
     ensures { result ≡ lacking answers.now }
 {
-    let mut count = 0;
-    for answer in answers {
-        if answer.is_none() {
-            count += 1;
-        }
-    }
-    count
+    answers.iter().filter(|answer| answer.is_none()).count() as u8
 }
 
 // The words that the nodes have given.
 pub(crate) fn words_of(answers: &[Option<u64>; 32]) -> [u64; 32]
-    ensures { result ≡ map or_zero answers.now }
+    ensures { EachIndex result (λ i. slice_index result i ≡ unwrap_or (slice_index_or answers.now i None) 0) }
 {
-    let mut words = [0; 32];
-    for i in 0..32 {
-        words[i] = answers[i].unwrap_or(0);
-    }
-    words
+    std::array::from_fn(|i| answers[i].unwrap_or(0))
 }

@@ -2,25 +2,28 @@
 ghost use Rattle.std.specs.Prelude.{◌≡◌, ◌-◌, ◌≤◌, true, map, length, take, None, vec_len};
 ghost use Rattle.store.specs.Table.{Model};
 ghost use Rattle.law.specs.Book.{with_log, with_restart};
-ghost use Rattle.law.specs.Restarts.{resumed_to, tells_places, log_back, again as go_again, holds as is_open, resume_tells, resume_book};
+ghost use Rattle.law.specs.Restarts.{resumed_to, tells_places, log_back, again as go_again, resume_tells, resume_book};
 ghost use Rattle.law.specs.Trials.{bounds as bounds_of, from_bounds, log_from, kept_in, collected, collect_tells, collect_book};
-ghost use Rattle.book.specs.Listed.{listed};
 ghost use Rattle.book.specs.View.{view, bare, group, groups};
 ghost use Rattle.book.specs.Sound.{sound as is_sound, clusters_sound};
 ghost use Rattle.federation.specs.Collecting.{spent, collected_of, collect_told, resume_told};
+ghost use Rattle.federation.specs.Tickets.{numbered};
 
+use crate::restarts::opened;
 use crate::sight::count;
+use crate::tickets::TicketNumbers;
 use crate::told::{Collected, Resumed};
-use book::{Book, Cluster, ShortList};
+use arrayvec::ArrayVec;
+use book::{Book, Cluster};
 use pruning::{again, back_to, from_bounds, log_back, log_from};
 use recovery::{bounds, told_places};
 use refusal::Refusal;
 use store::Store;
 
 // The log after clusters went back to their places, with the restart ended; tells the ids of the messages that go again.
-fn undo_messages(book: &mut Book, places: &[u32; 8]) -> ShortList<u32, 128>
+fn undo_messages(book: &mut Book, places: &[u32; 8]) -> ArrayVec<u32, 128>
     requires { is_sound book.old ≡ true }
-    ensures value { listed result ≡ go_again places.now (log_back places.now book.old.log.items) }
+    ensures value { result.items ≡ go_again places.now (log_back places.now book.old.log.items) }
     ensures after { (m : Model) → view book.new m ≡ with_restart (with_log (view book.old m) (log_back places.now book.old.log.items)) None }
     ensures sound { is_sound book.new ≡ true }
 {
@@ -33,7 +36,7 @@ fn undo_messages(book: &mut Book, places: &[u32; 8]) -> ShortList<u32, 128>
 pub(crate) fn go_back<S: Store>(book: &mut Book, store: &mut S, places: [u32; 8]) -> Resumed
     requires sound { is_sound book.old ≡ true }
     requires store_sound { S.Store.sound store.old }
-    ensures answer { (listed result.places ≡ tells_places (vec_len book.old.clusters) places) × (listed result.ids ≡ go_again places (log_back places book.old.log.items)) }
+    ensures answer { (result.places.items ≡ tells_places (vec_len book.old.clusters) places) × (result.ids.items ≡ go_again places (log_back places book.old.log.items)) }
     ensures after { view book.new (S.Store.model store.new) ≡ resumed_to places (view book.old (S.Store.model store.old)) }
     ensures sound { is_sound book.new ≡ true }
     ensures store_sound { S.Store.sound store.new }
@@ -47,33 +50,20 @@ pub(crate) fn go_back<S: Store>(book: &mut Book, store: &mut S, places: [u32; 8]
     }
 }
 
-// Whether the ticket is that of the newest restart.
-fn is_newest(book: &Book, name: u32, count: u32) -> bool
-    ensures { result ≡ is_open (bare book.now) (record { name = name; count = count }) }
-{
-    name == book.name && count == book.restarts
-}
-
 // Ends a restart that is settled: every cluster goes back to its place.
 pub(crate) fn resume<S: Store>(
     book: &mut Book,
     store: &mut S,
-    name: u32,
-    count: u32,
+    ticket: TicketNumbers,
 ) -> Result<Resumed, Refusal>
     requires sound { is_sound book.old ≡ true }
     requires store_sound { S.Store.sound store.old }
-    ensures answer { resume_told result ≡ resume_tells (view book.old (S.Store.model store.old)) (record { name = name; count = count }) }
-    ensures after { view book.new (S.Store.model store.new) ≡ resume_book (view book.old (S.Store.model store.old)) (record { name = name; count = count }) }
+    ensures answer { resume_told result ≡ resume_tells (view book.old (S.Store.model store.old)) (numbered ticket) }
+    ensures after { view book.new (S.Store.model store.new) ≡ resume_book (view book.old (S.Store.model store.old)) (numbered ticket) }
     ensures sound { is_sound book.new ≡ true }
     ensures store_sound { S.Store.sound store.new }
 {
-    let Some(restart) = book.restart else {
-        return Err(Refusal::NoRestart);
-    };
-    if !is_newest(book, name, count) || !restart.settled {
-        return Err(Refusal::WrongTicket);
-    }
+    let restart = opened(book, ticket, true)?;
     Ok(go_back(book, store, restart.places))
 }
 
@@ -88,18 +78,6 @@ fn kept_in(clusters: &[Cluster]) -> u8
         sum += cluster.kept.len() as u8;
     }
     sum
-}
-
-// The bounds of this many clusters.
-fn first_bounds(bounds: &[u32; 8], count: usize) -> ShortList<u32, 8>
-    requires { count ≤ 8 }
-    ensures { listed result ≡ take count bounds.now }
-{
-    let mut list = ShortList::new(0);
-    for i in 0..count {
-        list.push(bounds[i]);
-    }
-    list
 }
 
 // Below these numbers no later fault can need a checkpoint. The restart is as it was.
@@ -150,8 +128,10 @@ pub(crate) fn drop_spent<S: Store>(book: &mut Book, store: &mut S) -> Collected
     let clusters = count(book);
     let checkpoints = drop_checkpoints(book, store, lowest);
     let messages = drop_messages(book, &lowest);
+    let mut bounds = ArrayVec::from(lowest);
+    bounds.truncate(clusters);
     Collected {
-        bounds: first_bounds(&lowest, clusters),
+        bounds,
         checkpoints,
         messages,
     }

@@ -13,5 +13,5 @@ mod told;
 mod trials;
 
 pub use federation::{Closed, Federation, NotOpened};
-pub use tickets::{Faulted, Returned, Settled, TicketNumbers, Travelling};
+pub use tickets::{Faulted, Returned, Settled, Ticket, TicketNumbers, Travelling};
 pub use told::{Collected, Resumed};

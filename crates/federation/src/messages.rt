@@ -1,5 +1,5 @@
 // Send and arrive, as far as they are the book's.
-ghost use Rattle.std.specs.Prelude.{◌≡◌, ◌<◌, true, is_some, IfOk, None, vec_len};
+ghost use Rattle.std.specs.Prelude.{◌≡◌, ◌<◌, true, is_some, IfOk, IfErr, OnOk, Some, None, vec_len};
 ghost use Rattle.law.specs.declared.Arrived.TheVariants.{Delivered};
 ghost use Rattle.store.specs.Table.{Model};
 ghost use Rattle.law.specs.Book.{at, number as number_in};
@@ -10,35 +10,37 @@ ghost use Rattle.book.specs.Sound.{sound as is_sound};
 ghost use Rattle.federation.specs.Arrivable.{arrivable as may_arrive, placed, force_tells, force_book};
 
 use crate::answers::new_round;
-use crate::sight::{cluster as cluster_at, count, logged, nodes, round_refusal};
+use crate::sight::{cluster as cluster_at, count, logged, may_open, nodes};
 use book::{Book, LAST_NUMBER, MOST_MESSAGES};
 use law::{Arrived, Message, Sent};
 use refusal::Refusal;
 
-fn send_refusal(book: &Book, from: u8, to: u8) -> Option<Refusal>
+// Whether the call is accepted, and why not.
+fn may_send(book: &Book, from: u8, to: u8) -> Result<(), Refusal>
     requires { is_sound book.now ≡ true }
-    ensures { result ≡ send_refusal (bare book.now) from to }
+    ensures accepts { OnOk result (send_refusal (bare book.now) from to ≡ None) }
+    ensures refuses { IfErr result (λ why. send_refusal (bare book.now) from to ≡ Some why) }
 {
     let i = usize::from(from);
     if i >= count(book) || usize::from(to) >= count(book) {
-        return Some(Refusal::NoCluster);
+        return Err(Refusal::NoCluster);
     }
     if from == to {
-        return Some(Refusal::SameCluster);
+        return Err(Refusal::SameCluster);
     }
     if book.restart.is_some() {
-        return Some(Refusal::RestartOpen);
+        return Err(Refusal::RestartOpen);
     }
     if cluster_at(book, i).round.is_some() {
-        return Some(Refusal::RoundOpen);
+        return Err(Refusal::RoundOpen);
     }
     if book.log.len() >= MOST_MESSAGES {
-        return Some(Refusal::LogFull);
+        return Err(Refusal::LogFull);
     }
     if book.next_id > LAST_NUMBER {
-        return Some(Refusal::NumbersSpent);
+        return Err(Refusal::NumbersSpent);
     }
-    None
+    Ok(())
 }
 
 pub(crate) fn send(book: &mut Book, from: u8, to: u8, word: u64) -> Result<Sent, Refusal>
@@ -47,9 +49,7 @@ pub(crate) fn send(book: &mut Book, from: u8, to: u8, word: u64) -> Result<Sent,
     ensures after { (m : Model) → view book.new m ≡ send_book (view book.old m) from to word }
     ensures sound { is_sound book.new ≡ true }
 {
-    if let Some(why) = send_refusal(book, from, to) {
-        return Err(why);
-    }
+    may_send(book, from, to)?;
     let i = usize::from(from);
     let sent = Sent {
         id: book.next_id,
@@ -79,9 +79,7 @@ pub(crate) fn arrivable(book: &Book, id: u32, rank: u8) -> Result<usize, Refusal
     if book.restart.is_some() {
         return Err(Refusal::RestartOpen);
     }
-    let Some(place) = logged(book, id) else {
-        return Err(Refusal::NotInLog);
-    };
+    let place = logged(book, id).ok_or(Refusal::NotInLog)?;
     let found = book.log[place];
     if found.receipt.is_some() {
         return Err(Refusal::Delivered);
@@ -114,9 +112,7 @@ pub(crate) fn force(book: &mut Book, place: usize, rank: u8) -> Result<Arrived, 
 {
     let message = message_at(book, place);
     let to = usize::from(message.to);
-    if let Some(why) = round_refusal(book, to) {
-        return Err(why);
-    }
+    may_open(book, to)?;
     let number = cluster_at(book, to).row[to];
     book.set_round(to, Some(new_round(rank, Some(message.id))));
     Ok(Arrived::Forced(number + 1))

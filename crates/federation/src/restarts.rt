@@ -1,31 +1,35 @@
 // Fault, alert and finish: a restart is opened, its alerts are carried, and it is settled.
-ghost use Rattle.std.specs.Prelude.{◌≡◌, ◌<◌, true};
+ghost use Rattle.std.specs.Prelude.{◌≡◌, ◌<◌, true, IfOk, IfErr, OnOk, Some, None};
 ghost use Rattle.store.specs.Table.{Model};
 ghost use Rattle.law.specs.Book.{number as number_in, replied};
-ghost use Rattle.law.specs.Restarts.{fault_refusal, fault_book, waits as waits_in, holds as holds_in, alert_refusal, alert_tells, alert_book, finish_refusal, finish_tells, finish_book, resume_refusal};
+ghost use Rattle.law.specs.Restarts.{fault_refusal, fault_book, ticket as newest, waits as waits_in, holds as holds_in, alert_refusal, alert_tells, alert_book, finish_tells, finish_book};
 ghost use Rattle.book.specs.View.{view, bare};
 ghost use Rattle.book.specs.Sound.{sound as is_sound};
+ghost use Rattle.federation.specs.Tickets.{numbered, stage_refusal};
 
 use crate::sight::count as count_of;
+use crate::tickets::TicketNumbers;
 use book::{Book, LAST_NUMBER};
 use law::{Carried, Restart};
 use recovery::{begin, carry, drain, told};
 use refusal::Refusal;
 
-fn fault_refusal(book: &Book, cluster: u8) -> Option<Refusal>
+// Whether a fault is accepted, and why not.
+fn may_fault(book: &Book, cluster: u8) -> Result<(), Refusal>
     requires { is_sound book.now ≡ true }
-    ensures { result ≡ fault_refusal (bare book.now) cluster }
+    ensures accepts { OnOk result (fault_refusal (bare book.now) cluster ≡ None) }
+    ensures refuses { IfErr result (λ why. fault_refusal (bare book.now) cluster ≡ Some why) }
 {
     if usize::from(cluster) >= count_of(book) {
-        return Some(Refusal::NoCluster);
+        return Err(Refusal::NoCluster);
     }
     if book.restart.is_some() {
-        return Some(Refusal::RestartOpen);
+        return Err(Refusal::RestartOpen);
     }
     if book.restarts >= LAST_NUMBER {
-        return Some(Refusal::NumbersSpent);
+        return Err(Refusal::NumbersSpent);
     }
-    None
+    Ok(())
 }
 
 // A cluster has failed: every open round is dropped, and a restart opens. Tells the place of the failed cluster.
@@ -35,9 +39,7 @@ pub(crate) fn fault(book: &mut Book, cluster: u8) -> Result<u32, Refusal>
     ensures after { (m : Model) → view book.new m ≡ fault_book (view book.old m) cluster }
     ensures sound { is_sound book.new ≡ true }
 {
-    if let Some(why) = fault_refusal(book, cluster) {
-        return Err(why);
-    }
+    may_fault(book, cluster)?;
     let i = usize::from(cluster);
     let restart = begin(book.clusters.as_slice(), i);
     book.drop_rounds();
@@ -46,11 +48,21 @@ pub(crate) fn fault(book: &mut Book, cluster: u8) -> Result<u32, Refusal>
     Ok(restart.places[i])
 }
 
-// Whether the ticket is that of the restart that is open, or was the last.
-fn holds(book: &Book, name: u32, count: u32) -> bool
-    ensures { result ≡ holds_in (bare book.now) (record { name = name; count = count }) }
+// The numbers of the restart that is open, or was the last.
+pub(crate) fn newest(book: &Book) -> TicketNumbers
+    ensures { numbered result ≡ newest (bare book.now) }
 {
-    name == book.name && count == book.restarts
+    TicketNumbers {
+        name: book.name,
+        count: book.restarts,
+    }
+}
+
+// Whether the ticket is that of the restart that is open, or was the last.
+fn holds(book: &Book, ticket: TicketNumbers) -> bool
+    ensures { result ≡ holds_in (bare book.now) (numbered ticket) }
+{
+    ticket.name == book.name && ticket.count == book.restarts
 }
 
 // Whether an alert waits between the two clusters.
@@ -62,96 +74,79 @@ fn waits(restart: &Restart, from: usize, to: usize) -> bool
     restart.waiting[from].to[to]
 }
 
-fn alert_refusal(book: &Book, name: u32, count: u32, from: u8, to: u8) -> Option<Refusal>
+// The open restart, in which this alert waits and may be carried on this ticket.
+fn alerted(book: &Book, ticket: TicketNumbers, from: u8, to: u8) -> Result<Restart, Refusal>
     requires { is_sound book.now ≡ true }
-    ensures { result ≡ alert_refusal (bare book.now) (record { name = name; count = count }) from to }
+    ensures opened { IfOk result (λ restart. book.now.restart ≡ Some restart) }
+    ensures accepts { OnOk result (alert_refusal (bare book.now) (numbered ticket) from to ≡ None) }
+    ensures refuses { IfErr result (λ why. alert_refusal (bare book.now) (numbered ticket) from to ≡ Some why) }
 {
     let i = usize::from(from);
     let j = usize::from(to);
     if i >= count_of(book) || j >= count_of(book) {
-        return Some(Refusal::NoCluster);
+        return Err(Refusal::NoCluster);
     }
     if from == to {
-        return Some(Refusal::SameCluster);
+        return Err(Refusal::SameCluster);
     }
-    let Some(restart) = &book.restart else {
-        return Some(Refusal::NoRestart);
+    let Some(restart) = book.restart else {
+        return Err(Refusal::NoRestart);
     };
-    if !waits(restart, i, j) {
-        return Some(Refusal::NoAlert);
+    if !waits(&restart, i, j) {
+        return Err(Refusal::NoAlert);
     }
-    if !holds(book, name, count) || restart.settled {
-        return Some(Refusal::WrongTicket);
+    if !holds(book, ticket) || restart.settled {
+        return Err(Refusal::WrongTicket);
     }
-    None
+    Ok(restart)
 }
 
 // Carries one alert of the open restart.
 pub(crate) fn alert(
     book: &mut Book,
-    name: u32,
-    count: u32,
+    ticket: TicketNumbers,
     from: u8,
     to: u8,
 ) -> Result<Carried, Refusal>
     requires { is_sound book.old ≡ true }
-    ensures answer { (m : Model) → result ≡ alert_tells (view book.old m) (record { name = name; count = count }) from to }
-    ensures after { (m : Model) → view book.new m ≡ alert_book (view book.old m) (record { name = name; count = count }) from to }
+    ensures answer { (m : Model) → result ≡ alert_tells (view book.old m) (numbered ticket) from to }
+    ensures after { (m : Model) → view book.new m ≡ alert_book (view book.old m) (numbered ticket) from to }
     ensures sound { is_sound book.new ≡ true }
 {
-    if let Some(why) = alert_refusal(book, name, count, from, to) {
-        return Err(why);
-    }
+    let mut restart = alerted(book, ticket, from, to)?;
     let j = usize::from(to);
-    match &mut book.restart {
-        None => Err(Refusal::NoRestart),
-        Some(restart) => {
-            let moved = carry(restart, book.clusters.as_slice(), usize::from(from), j);
-            Ok(Carried {
-                moved,
-                place: told(restart.places[j]),
-            })
-        }
-    }
+    let moved = carry(&mut restart, book.clusters.as_slice(), usize::from(from), j);
+    book.restart = Some(restart);
+    Ok(Carried {
+        moved,
+        place: told(restart.places[j]),
+    })
 }
 
-fn finish_refusal(book: &Book, name: u32, count: u32) -> Option<Refusal>
-    ensures { result ≡ finish_refusal (bare book.now) (record { name = name; count = count }) }
+// The open restart, if the ticket is its own and it is settled, or is not, as asked.
+pub(crate) fn opened(book: &Book, ticket: TicketNumbers, settled: bool) -> Result<Restart, Refusal>
+    ensures opened { IfOk result (λ restart. book.now.restart ≡ Some restart) }
+    ensures accepts { OnOk result (stage_refusal settled (bare book.now) (numbered ticket) ≡ None) }
+    ensures refuses { IfErr result (λ why. stage_refusal settled (bare book.now) (numbered ticket) ≡ Some why) }
 {
-    let Some(restart) = &book.restart else {
-        return Some(Refusal::NoRestart);
-    };
-    if !holds(book, name, count) || restart.settled {
-        return Some(Refusal::WrongTicket);
+    let restart = book.restart.ok_or(Refusal::NoRestart)?;
+    if holds(book, ticket) && restart.settled == settled {
+        Ok(restart)
+    } else {
+        Err(Refusal::WrongTicket)
     }
-    None
 }
 
 // Carries every alert that waits, and settles the restart.
-pub(crate) fn finish(book: &mut Book, name: u32, count: u32) -> Result<(), Refusal>
+pub(crate) fn finish(book: &mut Book, ticket: TicketNumbers) -> Result<(), Refusal>
     requires { is_sound book.old ≡ true }
-    ensures answer { (m : Model) → result ≡ finish_tells (view book.old m) (record { name = name; count = count }) }
-    ensures after { (m : Model) → view book.new m ≡ finish_book (view book.old m) (record { name = name; count = count }) }
+    ensures answer { (m : Model) → result ≡ finish_tells (view book.old m) (numbered ticket) }
+    ensures after { (m : Model) → view book.new m ≡ finish_book (view book.old m) (numbered ticket) }
     ensures sound { is_sound book.new ≡ true }
 {
-    if let Some(why) = finish_refusal(book, name, count) {
-        return Err(why);
-    }
-    if let Some(restart) = &mut book.restart {
-        drain(restart, book.clusters.as_slice());
-        restart.settled = true;
-    }
+    let mut restart = opened(book, ticket, false)?;
+    drain(&mut restart, book.clusters.as_slice());
+    restart.settled = true;
+    book.restart = Some(restart);
     Ok(())
-}
-
-pub(crate) fn resume_refusal(book: &Book, name: u32, count: u32) -> Option<Refusal>
-    ensures { result ≡ resume_refusal (bare book.now) (record { name = name; count = count }) }
-{
-    let Some(restart) = &book.restart else {
-        return Some(Refusal::NoRestart);
-    };
-    if !holds(book, name, count) || !restart.settled {
-        return Some(Refusal::WrongTicket);
-    }
-    None
 }

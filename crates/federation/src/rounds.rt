@@ -1,5 +1,5 @@
 // Request and answer, as far as they are the book's.
-ghost use Rattle.std.specs.Prelude.{◌≡◌, suc, ◌<◌, ◌≤◌, true, is_some, IfOk, Some, None, Ok, vec_len};
+ghost use Rattle.std.specs.Prelude.{◌≡◌, suc, ◌<◌, ◌≤◌, true, is_some, IfOk, IfErr, OnOk, Some, None, Ok, vec_len};
 ghost use Rattle.store.specs.Table.{Model};
 ghost use Rattle.law.specs.Book.{at, number as number_in, logged as find, with_cluster, with_round};
 ghost use Rattle.law.specs.Rounds.{request_refusal, request_tells, request_book, saved, deliver_waiting, deliver_logged};
@@ -8,29 +8,31 @@ ghost use Rattle.book.specs.View.{view, bare};
 ghost use Rattle.book.specs.Sound.{sound as is_sound};
 
 use crate::answers::requested;
-use crate::sight::{cluster as cluster_at, count, logged, nodes, round_refusal};
+use crate::sight::{cluster as cluster_at, count, logged, may_open, nodes};
 use book::Book;
 use law::Round;
 use refusal::Refusal;
 
-fn request_refusal(book: &Book, cluster: u8, rank: u8) -> Option<Refusal>
+// Whether a request is accepted, and why not.
+fn may_request(book: &Book, cluster: u8, rank: u8) -> Result<(), Refusal>
     requires { is_sound book.now ≡ true }
-    ensures { result ≡ request_refusal (bare book.now) cluster rank }
+    ensures accepts { OnOk result (request_refusal (bare book.now) cluster rank ≡ None) }
+    ensures refuses { IfErr result (λ why. request_refusal (bare book.now) cluster rank ≡ Some why) }
 {
     let i = usize::from(cluster);
     if i >= count(book) {
-        return Some(Refusal::NoCluster);
+        return Err(Refusal::NoCluster);
     }
     if rank >= book.nodes {
-        return Some(Refusal::NoRank);
+        return Err(Refusal::NoRank);
     }
     if book.restart.is_some() {
-        return Some(Refusal::RestartOpen);
+        return Err(Refusal::RestartOpen);
     }
     if cluster_at(book, i).round.is_some() {
-        return None;
+        return Ok(());
     }
-    round_refusal(book, i)
+    may_open(book, i)
 }
 
 // Opens a round with this initiator, or takes an open one over where the rank is lower.
@@ -40,9 +42,7 @@ pub(crate) fn request(book: &mut Book, cluster: u8, rank: u8) -> Result<u8, Refu
     ensures after { (m : Model) → view book.new m ≡ request_book (view book.old m) cluster rank }
     ensures sound { is_sound book.new ≡ true }
 {
-    if let Some(why) = request_refusal(book, cluster, rank) {
-        return Err(why);
-    }
+    may_request(book, cluster, rank)?;
     let i = usize::from(cluster);
     let round = requested(rank, cluster_at(book, i).round);
     book.set_round(i, Some(round));
@@ -65,16 +65,11 @@ pub(crate) fn answerable(book: &Book, cluster: u8, rank: u8) -> Result<Round, Re
     if book.restart.is_some() {
         return Err(Refusal::RestartOpen);
     }
-    match cluster_at(book, i).round {
-        None => Err(Refusal::NoRound),
-        Some(round) => {
-            if round.answers[usize::from(rank)].is_some() {
-                Err(Refusal::Answered)
-            } else {
-                Ok(round)
-            }
-        }
+    let round = cluster_at(book, i).round.ok_or(Refusal::NoRound)?;
+    if round.answers[usize::from(rank)].is_some() {
+        return Err(Refusal::Answered);
     }
+    Ok(round)
 }
 
 // A word that is not the last: the round goes on.

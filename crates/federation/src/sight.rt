@@ -1,5 +1,5 @@
 // What the calls look at before they change anything.
-ghost use Rattle.std.specs.Prelude.{◌≡◌, ◌<◌, ◌≤◌, true, vec_len};
+ghost use Rattle.std.specs.Prelude.{◌≡◌, ◌<◌, ◌≤◌, true, IfErr, OnOk, Some, None, vec_len};
 ghost use Rattle.law.specs.Book.{at, checkpoint_at, count as counted};
 ghost use Rattle.federation.specs.Reading.{not_kept};
 ghost use Rattle.law.specs.Messages.{round_refusal};
@@ -33,7 +33,7 @@ pub(crate) fn logged(book: &Book, id: u32) -> Option<usize>
     requires { is_sound book.now ≡ true }
     ensures { LoggedAt book.now.log.items id result }
 {
-    logged_at(book.log.as_slice(), id)
+    logged_at(&book.log, id)
 }
 
 pub(crate) fn cluster(book: &Book, i: usize) -> &Cluster
@@ -43,35 +43,37 @@ pub(crate) fn cluster(book: &Book, i: usize) -> &Cluster
     book.cluster(i)
 }
 
-// Why a round cannot open at this cluster.
-pub(crate) fn round_refusal(book: &Book, i: usize) -> Option<Refusal>
+// Whether a round can open at this cluster, and why not.
+pub(crate) fn may_open(book: &Book, i: usize) -> Result<(), Refusal>
     requires within { i < vec_len book.now.clusters }
     requires few { i < 8 }
-    ensures { result ≡ round_refusal (bare book.now) i }
+    ensures accepts { OnOk result (round_refusal (bare book.now) i ≡ None) }
+    ensures refuses { IfErr result (λ why. round_refusal (bare book.now) i ≡ Some why) }
 {
     let cluster = cluster(book, i);
     if cluster.kept.len() >= MOST_KEPT {
-        return Some(Refusal::KeptFull);
+        return Err(Refusal::KeptFull);
     }
     if cluster.row[i] >= LAST_NUMBER {
-        return Some(Refusal::NumbersSpent);
+        return Err(Refusal::NumbersSpent);
     }
-    None
+    Ok(())
 }
 
-// Why a checkpoint cannot be read: no such cluster, or it is not kept.
-pub(crate) fn unkept(book: &Book, cluster: u8, number: u32) -> Option<Refusal>
+// Whether a checkpoint is kept; else there is no such cluster, or it does not keep it.
+pub(crate) fn is_kept(book: &Book, cluster: u8, number: u32) -> Result<(), Refusal>
     requires { is_sound book.now ≡ true }
-    ensures { result ≡ not_kept (bare book.now) cluster number }
+    ensures accepts { OnOk result (not_kept (bare book.now) cluster number ≡ None) }
+    ensures refuses { IfErr result (λ why. not_kept (bare book.now) cluster number ≡ Some why) }
 {
     let i = usize::from(cluster);
     if i >= count(book) {
-        return Some(Refusal::NoCluster);
+        return Err(Refusal::NoCluster);
     }
     if kept_at(book, i, number).is_none() {
-        return Some(Refusal::NotKept);
+        return Err(Refusal::NotKept);
     }
-    None
+    Ok(())
 }
 
 fn kept_at(book: &Book, i: usize, number: u32) -> Option<Checkpoint>
@@ -79,5 +81,5 @@ fn kept_at(book: &Book, i: usize, number: u32) -> Option<Checkpoint>
     requires sound { is_sound book.now ≡ true }
     ensures { result ≡ checkpoint_at (at (bare book.now) i).kept number }
 {
-    checkpoint_at(cluster(book, i).kept.as_slice(), number)
+    checkpoint_at(&cluster(book, i).kept, number)
 }

@@ -1,5 +1,5 @@
 // Trial: where a fault would lead.
-ghost use Rattle.std.specs.Prelude.{◌≡◌, true};
+ghost use Rattle.std.specs.Prelude.{◌≡◌, true, IfErr, OnOk, Some, None};
 ghost use Rattle.store.specs.Table.{Model};
 ghost use Rattle.law.specs.Trials.{trial_refusal, trial_tells};
 ghost use Rattle.book.specs.View.{view, bare};
@@ -7,33 +7,34 @@ ghost use Rattle.book.specs.Sound.{sound as is_sound};
 ghost use Rattle.federation.specs.Told.{told_list};
 
 use crate::sight::count;
-use book::{Book, ShortList};
+use arrayvec::ArrayVec;
+use book::Book;
 use recovery::{told_places, trial as tried};
 use refusal::Refusal;
 
-fn trial_refusal(book: &Book, cluster: u8) -> Option<Refusal>
+// Whether a trial is accepted, and why not.
+fn may_try(book: &Book, cluster: u8) -> Result<(), Refusal>
     requires { is_sound book.now ≡ true }
-    ensures { result ≡ trial_refusal (bare book.now) cluster }
+    ensures accepts { OnOk result (trial_refusal (bare book.now) cluster ≡ None) }
+    ensures refuses { IfErr result (λ why. trial_refusal (bare book.now) cluster ≡ Some why) }
 {
     if usize::from(cluster) >= count(book) {
-        return Some(Refusal::NoCluster);
+        return Err(Refusal::NoCluster);
     }
     if book.restart.is_some() {
-        return Some(Refusal::RestartOpen);
+        return Err(Refusal::RestartOpen);
     }
-    None
+    Ok(())
 }
 
 // The places to which a fault of this cluster would lead. The book is as it was.
-pub(crate) fn trial(book: &mut Book, cluster: u8) -> Result<ShortList<u32, 8>, Refusal>
+pub(crate) fn trial(book: &mut Book, cluster: u8) -> Result<ArrayVec<u32, 8>, Refusal>
     requires { is_sound book.old ≡ true }
     ensures answer { (m : Model) → told_list result ≡ trial_tells (view book.old m) cluster }
     ensures after { (m : Model) → view book.new m ≡ view book.old m }
     ensures sound { is_sound book.new ≡ true }
 {
-    if let Some(why) = trial_refusal(book, cluster) {
-        return Err(why);
-    }
+    may_try(book, cluster)?;
     let places = tried(
         &mut book.restart,
         book.clusters.as_slice(),

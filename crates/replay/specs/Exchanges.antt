@@ -15,7 +15,7 @@ use Rattle.law.specs.Messages.{Rule}
 use Rattle.law.specs.Calls.{Answered, reply}
 use Rattle.law.specs.Calls as law
 use Rattle.federation.specs.Tickets.{numbered}
-use Rattle.federation.specs.Told.{told_list, told_words}
+use Rattle.federation.specs.Told.{told_list}
 use Rattle.federation.specs.Collecting.{resume_told, collect_told}
 use Rattle.replay.specs.declared.exchange.Call.{Call}
 use Rattle.replay.specs.declared.exchange.Call.TheVariants as call
@@ -82,7 +82,7 @@ told (exchange.Finish ticket answer) = record { call = law.finish (numbered tick
 told (exchange.Resume ticket answer) = record { call = law.resume (numbered ticket); reply = resume_told answer }
 told (exchange.Trial cluster answer) = record { call = law.trial cluster; reply = told_list answer }
 told (exchange.Collect answer) = record { call = law.collect; reply = collect_told answer }
-told (exchange.Read cluster number answer) = record { call = law.read cluster number; reply = told_words answer }
+told (exchange.Read cluster number answer) = record { call = law.read cluster number; reply = told_list answer }
 told (exchange.Lose side answer) = record { call = law.lose side (said answer); reply = answer }
 told (exchange.Rebuild side answer) = record { call = law.rebuild side (said answer); reply = answer }
 

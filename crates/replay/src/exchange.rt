@@ -1,5 +1,5 @@
 // A call as data, and an exchange: a call with its answer.
-use book::ShortList;
+use arrayvec::ArrayVec;
 use federation::{Collected, Resumed, TicketNumbers};
 use law::{Arrived, Carried, Noted, Sent};
 use refusal::Refusal;
@@ -74,7 +74,7 @@ pub enum Exchange {
     },
     Trial {
         cluster: u8,
-        answer: Result<ShortList<u32, 8>, Refusal>,
+        answer: Result<ArrayVec<u32, 8>, Refusal>,
     },
     Collect {
         answer: Result<Collected, Refusal>,
@@ -82,7 +82,7 @@ pub enum Exchange {
     Read {
         cluster: u8,
         number: u32,
-        answer: Result<ShortList<u64, 32>, Refusal>,
+        answer: Result<ArrayVec<u64, 32>, Refusal>,
     },
     Lose {
         side: u8,

@@ -5,7 +5,6 @@
 mod exchange;
 mod held;
 mod make;
-mod plain;
 mod replaying;
 
 pub use exchange::{Began, Call, Exchange};

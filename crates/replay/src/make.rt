@@ -7,34 +7,40 @@ ghost use Rattle.replay.specs.Exchanges.{Stepped};
 
 use crate::exchange::{Began, Call, Exchange};
 use crate::held::Held;
-use crate::plain;
-use federation::{Faulted, Federation, Returned, Settled, Travelling};
+use federation::{Faulted, Federation, Returned, Settled, Ticket, Travelling};
 use rule::ForcingRule;
 use store::{SidedStore, Store};
 
 // What a call leaves: the exchange, and the ticket that is held now.
 pub(crate) struct Made {
     pub(crate) exchange: Exchange,
-    pub(crate) held: Held,
+    pub(crate) held: Option<Held>,
+}
+
+// A ticket that was held is no longer wanted.
+fn give_up(held: Option<Held>) {
+    if let Some(held) = held {
+        held.give_up();
+    }
 }
 
 impl Made {
     // The same exchange, with another ticket held.
-    fn keeping(self, held: Held) -> Made
+    fn keeping(self, held: Option<Held>) -> Made
         ensures { result.exchange ≡ self.exchange }
     {
         let Made {
             exchange,
             held: spent,
         } = self;
-        spent.give_up();
+        give_up(spent);
         Made { exchange, held }
     }
 }
 
 fn fault<S: SidedStore, R: ForcingRule>(
     federation: &mut Federation<S, R>,
-    held: Held,
+    held: Option<Held>,
     cluster: u8,
 ) -> Made
     requires { S.Store.sound federation.old.store }
@@ -43,14 +49,14 @@ fn fault<S: SidedStore, R: ForcingRule>(
 {
     match federation.fault(cluster) {
         Ok(Faulted { place, ticket }) => {
-            held.give_up();
+            give_up(held);
             let answer = Ok(Began {
                 place,
                 ticket: ticket.numbers(),
             });
             Made {
                 exchange: Exchange::Fault { cluster, answer },
-                held: Held::Travelling(ticket),
+                held: Some(Held::Travelling(ticket)),
             }
         }
         Err(why) => Made {
@@ -65,7 +71,7 @@ fn fault<S: SidedStore, R: ForcingRule>(
 
 fn alert_on<S: SidedStore, R: ForcingRule>(
     federation: &mut Federation<S, R>,
-    ticket: &Travelling,
+    ticket: &Ticket<Travelling>,
     from: u8,
     to: u8,
 ) -> Exchange
@@ -84,7 +90,7 @@ fn alert_on<S: SidedStore, R: ForcingRule>(
 
 fn finish_on<S: SidedStore, R: ForcingRule>(
     federation: &mut Federation<S, R>,
-    ticket: Travelling,
+    ticket: Ticket<Travelling>,
 ) -> Made
     requires { S.Store.sound federation.old.store }
     ensures made { Stepped R.ForcingRule.says (shown S.Store.model federation.old) (shown S.Store.model federation.new) finish_call result.exchange }
@@ -97,21 +103,21 @@ fn finish_on<S: SidedStore, R: ForcingRule>(
                 ticket: numbers,
                 answer: Ok(()),
             },
-            held: Held::Settled(settled),
+            held: Some(Held::Settled(settled)),
         },
         Err(Returned { why, ticket }) => Made {
             exchange: Exchange::Finish {
                 ticket: numbers,
                 answer: Err(why),
             },
-            held: Held::Travelling(ticket),
+            held: Some(Held::Travelling(ticket)),
         },
     }
 }
 
 fn resume_on<S: SidedStore, R: ForcingRule>(
     federation: &mut Federation<S, R>,
-    ticket: Settled,
+    ticket: Ticket<Settled>,
 ) -> Made
     requires { S.Store.sound federation.old.store }
     ensures made { Stepped R.ForcingRule.says (shown S.Store.model federation.old) (shown S.Store.model federation.new) resume_call result.exchange }
@@ -124,7 +130,7 @@ fn resume_on<S: SidedStore, R: ForcingRule>(
                 ticket: numbers,
                 answer: Ok(resumed),
             },
-            held: Held::Nothing,
+            held: None,
         },
         Err(back) => {
             let Returned { why, ticket } = back;
@@ -133,7 +139,7 @@ fn resume_on<S: SidedStore, R: ForcingRule>(
                     ticket: numbers,
                     answer: Err(why),
                 },
-                held: Held::Settled(ticket),
+                held: Some(Held::Settled(ticket)),
             }
         }
     }
@@ -141,7 +147,7 @@ fn resume_on<S: SidedStore, R: ForcingRule>(
 
 fn alert<S: SidedStore, R: ForcingRule>(
     federation: &mut Federation<S, R>,
-    held: Held,
+    held: Option<Held>,
     from: u8,
     to: u8,
 ) -> Made
@@ -150,15 +156,15 @@ fn alert<S: SidedStore, R: ForcingRule>(
     ensures sound { S.Store.sound federation.new.store }
 {
     match held {
-        Held::Travelling(ticket) => {
+        Some(Held::Travelling(ticket)) => {
             let exchange = alert_on(federation, &ticket, from, to);
             Made {
                 exchange,
-                held: Held::Travelling(ticket),
+                held: Some(Held::Travelling(ticket)),
             }
         }
         held => {
-            let none = Travelling::of_no_restart();
+            let none = Ticket::of_no_restart();
             let exchange = alert_on(federation, &none, from, to);
             none.give_up();
             Made { exchange, held }
@@ -166,29 +172,35 @@ fn alert<S: SidedStore, R: ForcingRule>(
     }
 }
 
-fn finish<S: SidedStore, R: ForcingRule>(federation: &mut Federation<S, R>, held: Held) -> Made
+fn finish<S: SidedStore, R: ForcingRule>(
+    federation: &mut Federation<S, R>,
+    held: Option<Held>,
+) -> Made
     requires { S.Store.sound federation.old.store }
     ensures made { Stepped R.ForcingRule.says (shown S.Store.model federation.old) (shown S.Store.model federation.new) finish_call result.exchange }
     ensures sound { S.Store.sound federation.new.store }
 {
     match held {
-        Held::Travelling(ticket) => finish_on(federation, ticket),
+        Some(Held::Travelling(ticket)) => finish_on(federation, ticket),
         held => {
-            let made = finish_on(federation, Travelling::of_no_restart());
+            let made = finish_on(federation, Ticket::of_no_restart());
             made.keeping(held)
         }
     }
 }
 
-fn resume<S: SidedStore, R: ForcingRule>(federation: &mut Federation<S, R>, held: Held) -> Made
+fn resume<S: SidedStore, R: ForcingRule>(
+    federation: &mut Federation<S, R>,
+    held: Option<Held>,
+) -> Made
     requires { S.Store.sound federation.old.store }
     ensures made { Stepped R.ForcingRule.says (shown S.Store.model federation.old) (shown S.Store.model federation.new) resume_call result.exchange }
     ensures sound { S.Store.sound federation.new.store }
 {
     match held {
-        Held::Settled(ticket) => resume_on(federation, ticket),
+        Some(Held::Settled(ticket)) => resume_on(federation, ticket),
         held => {
-            let made = resume_on(federation, Settled::of_no_restart());
+            let made = resume_on(federation, Ticket::of_no_restart());
             made.keeping(held)
         }
     }
@@ -197,7 +209,7 @@ fn resume<S: SidedStore, R: ForcingRule>(federation: &mut Federation<S, R>, held
 // Makes one call.
 pub(crate) fn make<S: SidedStore, R: ForcingRule>(
     federation: &mut Federation<S, R>,
-    held: Held,
+    held: Option<Held>,
     call: Call,
 ) -> Made
     requires { S.Store.sound federation.old.store }
@@ -209,19 +221,52 @@ pub(crate) fn make<S: SidedStore, R: ForcingRule>(
         Call::Alert { from, to } => return alert(federation, held, from, to),
         Call::Finish => return finish(federation, held),
         Call::Resume => return resume(federation, held),
-        Call::Request { cluster, rank } => plain::request(federation, cluster, rank),
+        Call::Request { cluster, rank } => Exchange::Request {
+            cluster,
+            rank,
+            answer: federation.request(cluster, rank),
+        },
         Call::Answer {
             cluster,
             rank,
             word,
-        } => plain::answer(federation, cluster, rank, word),
-        Call::Send { from, to, word } => plain::send(federation, from, to, word),
-        Call::Arrive { id, rank } => plain::arrive(federation, id, rank),
-        Call::Trial { cluster } => plain::trial(federation, cluster),
-        Call::Collect => plain::collect(federation),
-        Call::Read { cluster, number } => plain::read(federation, cluster, number),
-        Call::Lose { side } => plain::lose(federation, side),
-        Call::Rebuild { side } => plain::rebuild(federation, side),
+        } => Exchange::Answer {
+            cluster,
+            rank,
+            word,
+            answer: federation.answer(cluster, rank, word),
+        },
+        Call::Send { from, to, word } => Exchange::Send {
+            from,
+            to,
+            word,
+            answer: federation.send(from, to, word),
+        },
+        Call::Arrive { id, rank } => Exchange::Arrive {
+            id,
+            rank,
+            answer: federation.arrive(id, rank),
+        },
+        Call::Trial { cluster } => Exchange::Trial {
+            cluster,
+            answer: federation.trial(cluster),
+        },
+        Call::Collect => Exchange::Collect {
+            answer: federation.collect(),
+        },
+        Call::Read { cluster, number } => Exchange::Read {
+            cluster,
+            number,
+            answer: federation.read(cluster, number),
+        },
+        Call::Lose { side } => Exchange::Lose {
+            side,
+            answer: federation.lose(side),
+        },
+        Call::Rebuild { side } => Exchange::Rebuild {
+            side,
+            answer: federation.rebuild(side),
+        },
     };
     Made { exchange, held }
 }

@@ -14,7 +14,7 @@ use store::{SidedStore, Store};
 // What a list of calls leaves: the federation, the ticket that is held, and every call with its answer.
 pub struct Replayed<S, R> {
     pub federation: Federation<S, R>,
-    pub held: Held,
+    pub held: Option<Held>,
     pub exchanges: Vec<Exchange>,
 }
 
@@ -58,14 +58,14 @@ fn make_all<S: SidedStore, R: ForcingRule>(
     federation: &mut Federation<S, R>,
     calls: &[Call],
     exchanges: &mut Vec<Exchange>,
-) -> Held
+) -> Option<Held>
     requires sound { S.Store.sound federation.old.store }
     requires empty { exchanges.old.items ≡ [] }
     requires room { length calls.now ≤ vec_capacity exchanges.old }
     ensures run { Run R.ForcingRule.says (shown S.Store.model federation.old) calls.now exchanges.new.items (shown S.Store.model federation.new) }
     ensures sound { S.Store.sound federation.new.store }
 {
-    let mut held = Held::Nothing;
+    let mut held = None;
     for call in calls {
         let Made {
             exchange,

@@ -34,10 +34,8 @@ impl<S: Store, R: ForcingRule> Federation<S, R> {
         ensures after { shown S.Store.model self.new ≡ answer_book (shown S.Store.model self.old) cluster rank word }
         ensures sound { S.Store.sound self.new.store }
     {
-        match rounds::answerable(&self.book, cluster, rank) {
-            Ok(round) => self.note_word(cluster, rank, word, round),
-            Err(why) => Err(why),
-        }
+        let round = rounds::answerable(&self.book, cluster, rank)?;
+        self.note_word(cluster, rank, word, round)
     }
 
     fn note_word(
@@ -77,13 +75,11 @@ impl<S: Store, R: ForcingRule> Federation<S, R> {
         let nodes = usize::from(sight::nodes(&self.book));
         let words = words_of(&round.answers);
         let number = rounds::next_number(&self.book, cluster);
-        match self.store.keep(cluster, number, &words[0..nodes]) {
-            Ok(()) => {
-                rounds::commit(&mut self.book, cluster, round.waiting);
-                Ok(Noted::Committed(number, round.waiting))
-            }
-            Err(why) => Err(Refusal::Store(why)),
-        }
+        self.store
+            .keep(cluster, number, &words[0..nodes])
+            .map_err(Refusal::Store)?;
+        rounds::commit(&mut self.book, cluster, round.waiting);
+        Ok(Noted::Committed(number, round.waiting))
     }
 
     // A message enters the log. Tells its id and its sender's number.
@@ -101,10 +97,7 @@ impl<S: Store, R: ForcingRule> Federation<S, R> {
         ensures after { shown S.Store.model self.new ≡ arrive_book R.ForcingRule.says (shown S.Store.model self.old) id rank }
         ensures store { self.new.store ≡ self.old.store }
     {
-        let place = match messages::arrivable(&self.book, id, rank) {
-            Ok(place) => place,
-            Err(why) => return Err(why),
-        };
+        let place = messages::arrivable(&self.book, id, rank)?;
         if self.forces(place) {
             messages::force(&mut self.book, place, rank)
         } else {

@@ -4,38 +4,39 @@ ghost use Rattle.law.specs.Storing.{read_tells, side_tells};
 ghost use Rattle.store.specs.Table.{lookup};
 ghost use Rattle.store.specs.Sides.{lose_refusal, lose_out, rebuild_refusal, rebuild_out};
 ghost use Rattle.federation.specs.Shown.{shown};
-ghost use Rattle.federation.specs.Told.{told_words, held};
+ghost use Rattle.federation.specs.Told.{told_list, held};
 
 use super::Federation;
 use crate::sight;
-use book::ShortList;
+use arrayvec::ArrayVec;
 use refusal::Refusal;
 use rule::ForcingRule;
 use store::{MOST_WORDS, SidedStore, Store};
 
 impl<S: Store, R: ForcingRule> Federation<S, R> {
     // The words of a kept checkpoint.
-    pub fn read(&self, cluster: u8, number: u32) -> Result<ShortList<u64, 32>, Refusal>
+    pub fn read(&self, cluster: u8, number: u32) -> Result<ArrayVec<u64, 32>, Refusal>
         requires { S.Store.sound self.now.store }
-        ensures { told_words result ≡ read_tells (shown S.Store.model self.now) cluster number }
+        ensures { told_list result ≡ read_tells (shown S.Store.model self.now) cluster number }
     {
-        if let Some(why) = sight::unkept(&self.book, cluster, number) {
-            return Err(why);
-        }
+        sight::is_kept(&self.book, cluster, number)?;
         self.words(cluster, number)
     }
 
-    fn words(&self, cluster: u8, number: u32) -> Result<ShortList<u64, 32>, Refusal>
+    fn words(&self, cluster: u8, number: u32) -> Result<ArrayVec<u64, 32>, Refusal>
         requires { S.Store.sound self.now.store }
-        ensures { told_words result ≡ held (lookup (S.Store.model self.now.store).table cluster number) }
+        ensures { told_list result ≡ held (lookup (S.Store.model self.now.store).table cluster number) }
     {
         // whoever asks for the count learns that every row has at most 32 words, so the buffer suffices
         let _rows = self.store.count();
         let mut buffer = [0; MOST_WORDS];
-        match self.store.read(cluster, number, &mut buffer) {
-            Ok(count) => Ok(ShortList::of(buffer, count)),
-            Err(why) => Err(Refusal::Store(why)),
-        }
+        let count = self
+            .store
+            .read(cluster, number, &mut buffer)
+            .map_err(Refusal::Store)?;
+        let mut words = ArrayVec::from(buffer);
+        words.truncate(count);
+        Ok(words)
     }
 }
 
@@ -49,10 +50,7 @@ impl<S: SidedStore, R: ForcingRule> Federation<S, R> {
         ensures sides { S.SidedStore.sides self.new.store ≡ S.SidedStore.sides self.old.store }
         ensures sound { S.Store.sound self.new.store }
     {
-        match self.store.lose(side) {
-            Ok(()) => Ok(()),
-            Err(why) => Err(Refusal::Store(why)),
-        }
+        self.store.lose(side).map_err(Refusal::Store)
     }
 
     // The store fills a side that is out from the rest. The table stays as it is.
@@ -64,9 +62,6 @@ impl<S: SidedStore, R: ForcingRule> Federation<S, R> {
         ensures sides { S.SidedStore.sides self.new.store ≡ S.SidedStore.sides self.old.store }
         ensures sound { S.Store.sound self.new.store }
     {
-        match self.store.rebuild(side) {
-            Ok(()) => Ok(()),
-            Err(why) => Err(Refusal::Store(why)),
-        }
+        self.store.rebuild(side).map_err(Refusal::Store)
     }
 }

@@ -1,5 +1,5 @@
 -- the bounds leave the book as it was; then the clusters are cut, and then the log
-use Rattle.std.proofs.Common.{◌≡◌, ℕ, List, sym, ap, ◌∙◌, ap₂}
+use Rattle.std.proofs.Common.{◌≡◌, ℕ, List, take, sym, ap, ◌∙◌, ap₂}
 use Rattle.law.specs.Trials.{bounds, collected}
 use Rattle.book.specs.declared.Book.{Book}
 use Rattle.book.specs.View.{view}
@@ -21,7 +21,7 @@ returns g c =
     let cut = c.drop_checkpoints-checkpoints.ensures in
     let left = c.drop_messages-messages.ensures in
     record {
-      answer = ap (λ (l : List ℕ). spent_of l c.drop_checkpoints-checkpoints.result c.drop_messages-messages.result) c.first_bounds.ensures
+      answer = ap (λ (l : List ℕ). spent_of l c.drop_checkpoints-checkpoints.result c.drop_messages-messages.result) (c.truncate.ensures.items ∙ ap (take c.count-clusters.result) c.from-bounds.ensures.0)
           ∙ ap₂ (spent_of _) cut.value left.value
           ∙ collected-told bs c.count-clusters.result same-book mid out m m' least c.count-clusters.ensures.value cut.after (left.after m')
           ∙ ap (λ (x : Book). spent (view x m)) is;

@@ -1,13 +1,12 @@
 -- past both tests the restart is open, settled and the ticket's own, so nothing is refused
-use Rattle.std.proofs.Common.{◌≡◌, ℕ, List, None, sym, ap, ◌∙◌, ap₂}
-use Rattle.std.proofs.lemmas.Bool.{not-false}
+use Rattle.std.proofs.Common.{◌≡◌, ℕ, List, Some, None, sym, ap, ◌∙◌, ap₂}
 use Rattle.law.specs.Book.{Book as Shown, Ticket, replied}
 use Rattle.law.specs.Restarts.{tells_places, resumed, resumed_tells, resume_refusal}
 use Rattle.book.specs.View.{view}
 use Rattle.book.proofs.Groups.{shown_len}
 use Rattle.federation.specs.Collecting.{resumed_of}
 use Rattle.federation.proofs.Allowed.{done, tells}
-use Rattle.federation.proofs.Cutting.{resume_allowed}
+use Rattle.federation.specs.Tickets.{numbered}
 use Rattle.federation.proofs.cuts.resume.Goals as goal
 
 pub returns : goal.returns
@@ -15,15 +14,16 @@ returns g c =
     let b = c.args.book.now in
     let m = g.S.Store.model c.args.store.now in
     let v : Shown = view b m in
-    let t : Ticket = record { name = c.args.name; count = c.args.count } in
-    let r = c.in-Some.restart in
-    let none : resume_refusal v t ≡ None = resume_allowed v t r c.in-Some.is (sym c.if-not-is_newest.ensures) (not-false _ c.if-not-restart.false) in
+    let t : Ticket = numbered c.args.ticket in
+    let r = c.in_ok-restart.restart in
+    let none : resume_refusal v t ≡ None = c.in_ok-restart.ensures.accepts in
+    let opens : v.restart ≡ Some r = c.in_ok-restart.ensures.opened in
     let told : resumed_of c.go_back.result ≡ resumed_tells v v.restart =
     ap₂ (λ (x y : List ℕ). (x, y)) (c.go_back.ensures.answer.0 ∙ ap (λ (n : ℕ). tells_places n r.places) (sym (shown_len b m))) c.go_back.ensures.answer.1
-    ∙ ap (resumed_tells v) (sym c.in-Some.is) in
+    ∙ ap (resumed_tells v) (sym opens) in
     record {
       answer = tells (resume_refusal v t) (resumed_of c.go_back.result) none ∙ ap (λ (x : List ℕ × List ℕ). replied (resume_refusal v t) x) told;
-      after = c.go_back.ensures.after ∙ ap (resumed v) (sym c.in-Some.is) ∙ done (resume_refusal v t) v (resumed v v.restart) none;
+      after = c.go_back.ensures.after ∙ ap (resumed v) (sym opens) ∙ done (resume_refusal v t) v (resumed v v.restart) none;
       sound = c.go_back.ensures.sound;
       store_sound = c.go_back.ensures.store_sound;
     }

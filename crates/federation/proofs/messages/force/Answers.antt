@@ -18,7 +18,7 @@ returns c =
     let M = message_at (vec_items b.log) c.args.place in
     let is = c.message_at-message.ensures.value in
     let to_is : c.from-to.result ≡ M.to = c.from-to.ensures ∙ ap (λ (x : Message). x.to) is in
-    let none : round_refusal (bare b) M.to ≡ None = ap (round_refusal (bare b)) (sym to_is) ∙ sym c.in_default.ensures in
+    let none : round_refusal (bare b) M.to ≡ None = ap (round_refusal (bare b)) (sym to_is) ∙ c.in_ok-may_open.ensures.accepts in
     let n = entry c.cluster.result.now.row c.from-to.result in
     let n-is : n ≡ number (bare b) M.to = ap (λ (x : Group). entry x.row c.from-to.result) c.cluster.ensures ∙ ap (λ (k : ℕ). number (bare b) k) to_is in
     record {

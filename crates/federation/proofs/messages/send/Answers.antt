@@ -1,4 +1,4 @@
-use Rattle.std.proofs.Common.{◌≡◌, ℕ, not, Result, sym, ap, ◌∙◌, arith}
+use Rattle.std.proofs.Common.{◌≡◌, ℕ, not, Result, ap, ◌∙◌, arith}
 use Rattle.std.proofs.lemmas.Bool.{lt-ltb}
 use Rattle.refusal.specs.declared.Refusal.{Refusal}
 use Rattle.store.specs.Table.{Model}
@@ -13,28 +13,28 @@ use Rattle.federation.proofs.messages.send.Goals as goal
 pub cluster-requires : goal.cluster-requires
 cluster-requires c =
     let b = c.args.book.now in
-    let ok = send_allowed (bare b) c.args.from c.args.to (sym c.in_default.ensures) in
+    let ok = send_allowed (bare b) c.args.from c.args.to (c.in_ok-may_send.ensures.accepts) in
     let near = within b c.args.from ok.from in
     omega arith
 
 pub offset_bounds-cluster-i : goal.offset_bounds-cluster-i
 offset_bounds-cluster-i c =
     let b = c.args.book.now in
-    let ok = send_allowed (bare b) c.args.from c.args.to (sym c.in_default.ensures) in
+    let ok = send_allowed (bare b) c.args.from c.args.to (c.in_ok-may_send.ensures.accepts) in
     let near = few-shown b c.args.from c.requires (within b c.args.from ok.from) in
     omega arith
 
 pub bounds-cluster-i : goal.bounds-cluster-i
 bounds-cluster-i c =
     let b = c.args.book.now in
-    let ok = send_allowed (bare b) c.args.from c.args.to (sym c.in_default.ensures) in
+    let ok = send_allowed (bare b) c.args.from c.args.to (c.in_ok-may_send.ensures.accepts) in
     let near = few-shown b c.args.from c.requires (within b c.args.from ok.from) in
     omega arith
 
 pub log_message-requires : goal.log_message-requires
 log_message-requires c =
     let b = c.args.book.now in
-    let ok = send_allowed (bare b) c.args.from c.args.to (sym c.in_default.ensures) in
+    let ok = send_allowed (bare b) c.args.from c.args.to (c.in_ok-may_send.ensures.accepts) in
     let len = b.log.ok.0 in
     let free = ok.free in
     record {
@@ -47,7 +47,7 @@ log_message-requires c =
 pub returns : goal.returns
 returns c =
     let b = c.args.book.now in
-    let none = sym c.in_default.ensures in
+    let none = c.in_ok-may_send.ensures.accepts in
     let i = c.args.from in
     let j = c.args.to in
     let n-is : entry c.cluster.result.now.row c.from-i.result ≡ number (bare b) i =

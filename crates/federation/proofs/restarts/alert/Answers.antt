@@ -8,7 +8,7 @@ use Rattle.federation.proofs.restarts.alert.Goals as goal
 pub carry-moved-requires : goal.carry-moved-requires
 carry-moved-requires c =
     let b = c.args.book.now in
-    let ok = alert_allowed (bare b) _ c.args.from c.args.to c.in_default.ensures in
+    let ok = alert_allowed (bare b) _ c.args.from c.args.to (sym c.in_ok-restart.ensures.accepts) in
     let near = few-shown b c.args.from c.requires (within b c.args.from ok.0) in
     let far = few-shown b c.args.to c.requires (within b c.args.to ok.1) in
     record {
@@ -21,17 +21,17 @@ carry-moved-requires c =
 pub bounds-restart-j : goal.bounds-restart-j
 bounds-restart-j c =
     let b = c.args.book.now in
-    let ok = alert_allowed (bare b) _ c.args.from c.args.to c.in_default.ensures in
+    let ok = alert_allowed (bare b) _ c.args.from c.args.to (sym c.in_ok-restart.ensures.accepts) in
     let far = few-shown b c.args.to c.requires (within b c.args.to ok.1) in
     omega arith
 
-pub returns-in-Some-restart : goal.returns-in-Some-restart
-returns-in-Some-restart c =
+pub returns : goal.returns
+returns c =
     let b = c.args.book.now in
-    let none = sym c.in_default.ensures in
+    let none = c.in_ok-restart.ensures.accepts in
     let shows = ap (map group) c.as_slice.ensures.value in
     record {
-      answer = λ m. alert_says (view b m) _ _ _ _ _ _ _ _ none c.in-Some-restart.is c.from.ensures c.from-j.ensures shows c.carry-moved.ensures.after _ _ c.carry-moved.ensures.moved c.told.ensures;
-      after = λ m. alert_leaves (view b m) _ _ _ _ _ _ _ _ none c.in-Some-restart.is c.from.ensures c.from-j.ensures shows c.carry-moved.ensures.after;
+      answer = λ m. alert_says (view b m) _ _ _ _ _ _ _ _ none c.in_ok-restart.ensures.opened c.from.ensures c.from-j.ensures shows c.carry-moved.ensures.after _ _ c.carry-moved.ensures.moved c.told.ensures;
+      after = λ m. alert_leaves (view b m) _ _ _ _ _ _ _ _ none c.in_ok-restart.ensures.opened c.from.ensures c.from-j.ensures shows c.carry-moved.ensures.after;
       sound = sound-restarted b _ _ c.requires;
     }

@@ -1,5 +1,5 @@
 -- the clusters of a sound book are few and sound, so that the restart can be drained
-use Rattle.std.proofs.Common.{map, sym, ap}
+use Rattle.std.proofs.Common.{map, ap}
 use Rattle.law.specs.Restarts.{finish_refusal}
 use Rattle.book.specs.View.{view, group}
 use Rattle.federation.proofs.Allowed.{tells}
@@ -11,12 +11,12 @@ drain-requires c =
     let b = c.args.book.now in
     record { few = slice_few b _ c.requires c.as_slice.ensures.value; sound = slice_sound b _ c.requires c.as_slice.ensures.value }
 
-pub returns-in-Some-restart : goal.returns-in-Some-restart
-returns-in-Some-restart c =
+pub returns : goal.returns
+returns c =
     let b = c.args.book.now in
-    let none = sym c.in_default.ensures in
+    let none = c.in_ok-restart.ensures.accepts in
     record {
       answer = λ m. tells (finish_refusal (view b m) _) tt none;
-      after = λ m. finish_leaves (view b m) _ _ _ _ none c.in-Some-restart.is (ap (map group) c.as_slice.ensures.value) c.drain.ensures;
+      after = λ m. finish_leaves (view b m) _ _ _ _ none c.in_ok-restart.ensures.opened (ap (map group) c.as_slice.ensures.value) c.drain.ensures;
       sound = sound-restarted b _ _ c.requires;
     }

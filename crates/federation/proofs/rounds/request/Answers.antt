@@ -13,13 +13,13 @@ use Rattle.federation.proofs.rounds.request.Goals as goal
 pub cluster-requires : goal.cluster-requires
 cluster-requires c =
     let b = c.args.book.now in
-    let ok = request_allowed (bare b) c.args.cluster c.args.rank (sym c.in_default.ensures) in
+    let ok = request_allowed (bare b) c.args.cluster c.args.rank (c.in_ok-may_request.ensures.accepts) in
     subst (λ (i : ℕ). i < vec_len b.clusters) (sym c.from-i.ensures) (within b c.args.cluster ok.0)
 
 pub set_round-requires : goal.set_round-requires
 set_round-requires c =
     let b = c.args.book.now in
-    let ok = request_allowed (bare b) c.args.cluster c.args.rank (sym c.in_default.ensures) in
+    let ok = request_allowed (bare b) c.args.cluster c.args.rank (c.in_ok-may_request.ensures.accepts) in
     record {
       within = subst (λ (i : ℕ). i < vec_len b.clusters) (sym c.from-i.ensures) (within b c.args.cluster ok.0);
       sound = c.requires;
@@ -31,7 +31,7 @@ returns c =
     let b = c.args.book.now in
     let i = c.args.cluster in
     let rank = c.args.rank in
-    let none = sym c.in_default.ensures in
+    let none = c.in_ok-may_request.ensures.accepts in
     let round : Round = requested rank (at (bare b) i).round in
     let round_is : c.requested-round.result ≡ round =
     c.requested-round.ensures ∙ ap (λ (x : Group). requested rank x.round) c.cluster.ensures ∙ ap (λ (k : ℕ). requested rank (at (bare b) k).round) c.from-i.ensures in

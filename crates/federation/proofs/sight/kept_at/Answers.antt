@@ -7,4 +7,4 @@ use Rattle.federation.proofs.sight.kept_at.Goals as goal
 
 pub checkpoint_at-requires : goal.checkpoint_at-requires
 checkpoint_at-requires c =
-    ap (ascending number_of) (c.as_slice.ensures.value ∙ ap (λ (x : Group). x.kept) c.cluster.ensures) ∙ shown-ascends c.args.book.now c.args.i c.requires.sound c.requires.within
+    ap (ascending number_of) (c.deref.ensures.value ∙ ap (λ (x : Group). x.kept) c.cluster.ensures) ∙ shown-ascends c.args.book.now c.args.i c.requires.sound c.requires.within

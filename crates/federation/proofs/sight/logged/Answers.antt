@@ -5,4 +5,4 @@ use Rattle.book.proofs.Soundness.{is_sound_lem}
 use Rattle.federation.proofs.sight.logged.Goals as goal
 
 pub logged_at-requires : goal.logged_at-requires
-logged_at-requires c = ap (ascending id_of) c.as_slice.ensures.value ∙ (is_sound_lem c.args.book.now c.requires).ascends
+logged_at-requires c = ap (ascending id_of) c.deref.ensures.value ∙ (is_sound_lem c.args.book.now c.requires).ascends

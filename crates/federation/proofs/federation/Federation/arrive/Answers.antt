@@ -9,12 +9,12 @@ pub returns-then-forces : goal.returns-then-forces
 returns-then-forces g c =
     let f = c.args.self.now in
     let m = g.S.Store.model f.store in
-    let is = forced_is g.R.ForcingRule.says (shown g.S.Store.model f) c.args.id c.args.rank (get_or (vec_items f.book.log) c.in-Ok.place no_logged) (sym c.in-Ok.ensures.value) (sym c.forces.ensures ∙ c.if-forces.true) in
+    let is = forced_is g.R.ForcingRule.says (shown g.S.Store.model f) c.args.id c.args.rank (get_or (vec_items f.book.log) c.in_ok-place.place no_logged) (sym c.in_ok-place.ensures.value) (sym c.forces.ensures ∙ c.if-forces.true) in
     record { answer = c.force.ensures.answer m ∙ is.0; after = c.force.ensures.after m ∙ is.1; store = refl }
 
 pub returns-else-forces : goal.returns-else-forces
 returns-else-forces g c =
     let f = c.args.self.now in
     let m = g.S.Store.model f.store in
-    let is = delivered_is g.R.ForcingRule.says (shown g.S.Store.model f) c.args.id c.args.rank (get_or (vec_items f.book.log) c.in-Ok.place no_logged) (sym c.in-Ok.ensures.value) (sym c.forces.ensures ∙ c.if-forces.false) in
+    let is = delivered_is g.R.ForcingRule.says (shown g.S.Store.model f) c.args.id c.args.rank (get_or (vec_items f.book.log) c.in_ok-place.place no_logged) (sym c.in_ok-place.ensures.value) (sym c.forces.ensures ∙ c.if-forces.false) in
     record { answer = ap (λ (v : Arrived). Ok v) c.deliver.ensures.answer ∙ is.0; after = c.deliver.ensures.after m ∙ is.1; store = refl }
