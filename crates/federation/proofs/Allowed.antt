@@ -5,26 +5,27 @@ use Rattle.refusal.specs.declared.Refusal.{Refusal}
 use Rattle.refusal.specs.declared.Refusal.TheVariants as refuses
 use Rattle.law.specs.declared.Round.{Round}
 use Rattle.law.specs.Book.{Book as Shown, Cluster as Group, at, count, number, most_kept, most_messages, last_number}
-use Rattle.law.specs.Book.{unless_refused, replied}
+use Rattle.refusal.specs.Answers.{unless_refused, replied}
 use Rattle.law.specs.Rounds.{request_refusal, request_at}
 use Rattle.store.specs.Table.{both}
 use Rattle.store.proofs.Orders.{both_true}
 use Rattle.law.specs.Messages.{round_refusal, send_refusal}
 use Rattle.law.proofs.State.{passes, escapes}
-use Rattle.book.specs.declared.Book.{Book}
+use Rattle.book.specs.declared.book.Book.{Book}
+use Rattle.std.specs.Ordering.{nat_cmp}
 use Rattle.ordered.specs.Seek.{ascending}
-use Rattle.book.specs.Sound.{sound, can_end, number_of}
+use Rattle.book.specs.Rules.{can_end, number_of}
 use Rattle.book.specs.View.{bare}
 use Rattle.book.proofs.Groups.{shown_len, group_at}
-use Rattle.book.proofs.Soundness.{both_is, is_sound_lem, read_at}
+use Rattle.book.proofs.Placing.{both_is, read_at}
 use Rattle.book.proofs.Ends.{shown-ends}
 
 -- a position that the book shows is one that it has
 pub within : (b : Book) (i : ℕ) → i < count (bare b) → i < vec_len b.clusters
 within b i h = let l = shown_len b (record { table = []; capacity = 0; full = 0 }) in omega arith
 
-pub few-shown : (b : Book) (i : ℕ) → sound b ≡ true → i < vec_len b.clusters → i < 8
-few-shown b i s h = let f = (is_sound_lem b s).few in omega arith
+pub few-shown : (b : Book) (i : ℕ) → i < vec_len b.clusters → i < 8
+few-shown b i h = let f = b.few in omega arith
 
 -- a round may open here: there is room for its checkpoint, and a number
 pub round-ends : (b : Shown) (i : ℕ) → round_refusal b i ≡ None → can_end true (length (at b i).kept) (number b i) ≡ true
@@ -45,8 +46,8 @@ request_allowed b i rank t =
     let r = escapes (is_some b.restart) refuses.RestartOpen (request_at b i (at b i).round) q.1 in
     (ltb-true _ _ p.0, r.1)
 
-pub may_open : (b : Book) (i : ℕ) → sound b ≡ true → i < count (bare b) → request_at (bare b) i (at (bare b) i).round ≡ None → can_end true (length (at (bare b) i).kept) (number (bare b) i) ≡ true
-may_open b i s h t = ends_at (bare b) i (at (bare b) i).round (shown-ends b i s (within b i h)) t
+pub may_open : (b : Book) (i : ℕ) → i < count (bare b) → request_at (bare b) i (at (bare b) i).round ≡ None → can_end true (length (at (bare b) i).kept) (number (bare b) i) ≡ true
+may_open b i h t = ends_at (bare b) i (at (bare b) i).round (shown-ends b i (within b i h)) t
 
 -- an accepted call tells what it has to, and leaves what it has to
 pub done : {A : Type 0} (o : Option Refusal) (was new : A) → o ≡ None → new ≡ unless_refused o was new
@@ -56,8 +57,8 @@ pub tells : {A : Type 0} (o : Option Refusal) (v : A) → o ≡ None → Ok v �
 tells o v e = ap (λ (z : Option Refusal). replied z v) (sym e)
 
 -- where a round is open there is room for its checkpoint, and a number
-pub open_ends : (b : Book) (i : ℕ) → sound b ≡ true → i < vec_len b.clusters → is_some (at (bare b) i).round ≡ true → can_end true (length (at (bare b) i).kept) (number (bare b) i) ≡ true
-open_ends b i s h o = subst (λ (t : Bool). can_end t (length (at (bare b) i).kept) (number (bare b) i) ≡ true) o (shown-ends b i s h)
+pub open_ends : (b : Book) (i : ℕ) → i < vec_len b.clusters → is_some (at (bare b) i).round ≡ true → can_end true (length (at (bare b) i).kept) (number (bare b) i) ≡ true
+open_ends b i h o = subst (λ (t : Bool). can_end t (length (at (bare b) i).kept) (number (bare b) i) ≡ true) o (shown-ends b i h)
 
 -- what an accepted send has shown
 pub record Sending (b : Shown) (i j : ℕ) : Type 0 where
@@ -86,9 +87,9 @@ pub refuses_leaves : {A : Type 0} (o : Option Refusal) (why : Refusal) (was new 
 refuses_leaves o why was new e = ap (λ (z : Option Refusal). unless_refused z was new) (sym e)
 
 -- the numbers of the kept checkpoints rise, as the book shows them
-pub shown-ascends : (b : Book) (i : ℕ) → sound b ≡ true → i < vec_len b.clusters → ascending number_of (at (bare b) i).kept ≡ true
-shown-ascends b i s h =
+pub shown-ascends : (b : Book) (i : ℕ) → i < vec_len b.clusters → ascending nat_cmp number_of (at (bare b) i).kept ≡ true
+shown-ascends b i h =
     let len = b.clusters.ok.0 in
     let inside : i < length (vec_items b.clusters) = omega arith in
     let it = read_at (vec_items b.clusters) i inside in
-    subst (λ (x : Group). ascending number_of x.kept ≡ true) (group_at (vec_items b.clusters) i it.0 inside it.1) ((is_sound_lem b s).clusters i it.0 h it.1).ascends
+    subst (λ (x : Group). ascending nat_cmp number_of x.kept ≡ true) (group_at (vec_items b.clusters) i it.0 inside it.1) it.0.ascends

@@ -3,17 +3,21 @@ use Rattle.std.proofs.Common.{◌≡◌, ℕ, suc, Bool, true, false, not, cond,
 use Rattle.refusal.specs.declared.Refusal.{Refusal}
 use Rattle.refusal.specs.declared.Refusal.TheVariants as refuses
 use Rattle.refusal.specs.declared.StoreRefusal.{StoreRefusal}
-use Rattle.store.specs.Table.{answered as kept, unless}
+use Rattle.refusal.specs.Answers.{unless_refused, replied}
 use Rattle.law.specs.declared.Round.{Round}
 use Rattle.law.specs.Book.{Book, at, count, or_zero}
 use Rattle.law.specs.Rounds.{from_store, answer_refusal, answer_at, missing}
 use Rattle.federation.specs.Answerable.{answerable, unanswered}
 
-pub kept_none : (o : Option StoreRefusal) → Ok tt ≡ kept o → from_store o ≡ None
+-- what a store's keep answers
+abbrev Answer : Result (Unit {0}) StoreRefusal → Option StoreRefusal → Type 0
+Answer told o = told ≡ replied o tt
+
+pub kept_none : (o : Option StoreRefusal) → Answer (Ok tt) o → from_store o ≡ None
 kept_none None e = refl
 kept_none (Some why) e = let z : ◌≡◌ {A = ℕ} 0 1 = cc in absurd (omega arith)
 
-pub kept_some : (o : Option StoreRefusal) (why : StoreRefusal) → Err why ≡ kept o → from_store o ≡ Some (refuses.Store why)
+pub kept_some : (o : Option StoreRefusal) (why : StoreRefusal) → Answer (Err why) o → from_store o ≡ Some (refuses.Store why)
 kept_some None why e = let z : ◌≡◌ {A = ℕ} 0 1 = cc in absurd (omega arith)
 kept_some (Some other) why e = cc
 
@@ -40,7 +44,7 @@ module _ (b : Book) (i rank word : ℕ) where
   answer_refused why e = by_tests (ltb i (count b)) (ltb rank b.nodes) (is_some b.restart) (at b i).round why e
 
 -- a store that refused to keep is as it was
-pub kept_same : {A : Type 0} (o : Option StoreRefusal) (why : StoreRefusal) (was new : A) → Err why ≡ kept o → unless o was new ≡ was
+pub kept_same : {A : Type 0} (o : Option StoreRefusal) (why : StoreRefusal) (was new : A) → Answer (Err why) o → unless_refused o was new ≡ was
 kept_same None why was new e = let z : ◌≡◌ {A = ℕ} 0 1 = cc in absurd (omega arith)
 kept_same (Some other) why was new e = refl
 

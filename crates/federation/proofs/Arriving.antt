@@ -6,7 +6,8 @@ use Rattle.refusal.specs.declared.Refusal.TheVariants as refuses
 use Rattle.law.specs.declared.Logged.{Logged}
 use Rattle.law.specs.declared.Arrived.{Arrived}
 use Rattle.law.specs.declared.Arrived.TheVariants.{Delivered, Forced}
-use Rattle.law.specs.Book.{Book, at, number, logged, unless_refused, replied}
+use Rattle.refusal.specs.Answers.{unless_refused, replied}
+use Rattle.law.specs.Book.{Book, at, number, logged}
 use Rattle.law.specs.Messages.{Rule, round_refusal, open_round, deliver, forces, arrive_at, arrive_refusal, arrived, arrived_tells, arrive_tells, arrive_book}
 use Rattle.law.proofs.State.{not_some}
 use Rattle.federation.specs.Arrivable.{arrivable, arrivable_at, force_tells, force_book}

@@ -1,28 +1,30 @@
 -- Cutting the clusters leaves the log as it was; a log that has lost messages or receipts leaves the book sound; and nothing kept
 -- grows in number.
-use Rattle.std.proofs.Common.{◌≡◌, ℕ, zero, suc, ◌-◌, ◌<◌, ◌≤◌, true, ltb, leb, List, [], ◌∷◌, length, get_or, take, set, Some, None, vec_items, vec_len, vec_capacity, sym, ap, ◌∙◌, subst, ap₂, arith}
+use Rattle.std.proofs.Common.{◌≡◌, ℕ, zero, suc, ◌-◌, ◌≤◌, true, ltb, leb, List, [], ◌∷◌, length, get_or, take, set, Some, None, vec_items, vec_len, vec_capacity, sym, ap, ◌∙◌, ap₂, arith}
+use Rattle.std.specs.Global.{Vec}
 use Rattle.std.proofs.lemmas.Bool.{cond-true}
 use Rattle.store.specs.Table.{Model}
+use Rattle.std.specs.Ordering.{nat_cmp}
 use Rattle.ordered.specs.Seek.{ascending}
 use Rattle.law.specs.declared.Logged.{Logged}
 use Rattle.law.specs.declared.Restart.{Restart}
-use Rattle.law.specs.Book.{Book as Shown, Ticket, Cluster as Group, at, count, nobody, with_log, with_restart}
+use Rattle.law.specs.Book.{Book as Shown, Ticket, Cluster as Group, at, count, nobody, with_log, with_restart, most_messages}
 use Rattle.law.specs.Restarts.{back, back_to, log_back, resumed_to, holds, resume_at, resume_refusal}
 use Rattle.law.specs.Trials.{from, from_bounds, log_from, bounds, kept_in, collected, Collected as Spent}
 use Rattle.law.proofs.Prune.{prune-log, length_kept}
-use Rattle.book.specs.declared.Cluster.{Cluster}
-use Rattle.book.specs.declared.Book.{Book}
-use Rattle.book.specs.Sound.{sound, ClusterSound, clusters_sound, id_of, ids_below, addressed}
+use Rattle.book.specs.declared.cluster.Cluster.{Cluster}
+use Rattle.book.specs.declared.book.Book.{Book}
+use Rattle.book.specs.Rules.{id_of, ids_below, addressed}
 use Rattle.book.specs.View.{view, groups}
 use Rattle.book.proofs.Groups.{shown_len}
-use Rattle.book.proofs.Soundness.{both_is, is_sound_lem, each_sound, sound_each, sound-log}
+use Rattle.book.proofs.Placing.{both_is}
 use Rattle.federation.specs.Collecting.{spent}
 use Rattle.pruning.proofs.LogStays.{log-back-ascends, log-back-below, log-back-addressed, log-back-short, log_from_ascends, log_from_below, log_from_addressed, log_from_short}
 
 -- what is left of a log is as ordered and addressed as the log was
 pub record Left (ms left : List Logged) : Type 0 where
   pub short : length left ≤ length ms
-  pub ascends : ascending id_of ms ≡ true → ascending id_of left ≡ true
+  pub ascends : ascending nat_cmp id_of ms ≡ true → ascending nat_cmp id_of left ≡ true
   pub below : (next : ℕ) → ids_below next ms ≡ true → ids_below next left ≡ true
   pub addressed : (n : ℕ) → addressed n ms ≡ true → addressed n left ≡ true
 
@@ -32,19 +34,29 @@ back-left ps ms = record { short = log-back-short ps ms; ascends = log-back-asce
 pub from_left : (bs : List ℕ) (ms : List Logged) → Left ms (log_from bs ms)
 from_left bs ms = record { short = log_from_short bs ms; ascends = log_from_ascends bs ms; below = log_from_below bs ms; addressed = log_from_addressed bs ms }
 
-pub sound-left : (b b' : Book) (left : List Logged) → sound b ≡ true → b'.nodes ≡ b.nodes → b'.clusters ≡ b.clusters → b'.next_id ≡ b.next_id → vec_capacity b'.log ≡ vec_capacity b.log → vec_items b'.log ≡ left → Left (vec_items b.log) left → sound b' ≡ true
-sound-left b b' left t nodes clusters next cap items l =
-    let s = is_sound_lem b t in
-    let room = s.room in
-    let short = s.short in
+-- what holds of a log, as the book has to keep it
+pub record Fit (clusters next : ℕ) (log : Vec Logged) : Type 0 where
+  pub room : most_messages ≤ vec_capacity log
+  pub short : vec_len log ≤ most_messages
+  pub ascends : ascending nat_cmp id_of (vec_items log) ≡ true
+  pub below : ids_below next (vec_items log) ≡ true
+  pub addressed : addressed clusters (vec_items log) ≡ true
+
+pub fit-left : (b : Book) (log : Vec Logged) (left : List Logged) → vec_capacity log ≡ vec_capacity b.log → vec_items log ≡ left → Left (vec_items b.log) left → Fit (vec_len b.clusters) b.next_id log
+fit-left b log left cap items l =
+    let room = b.room in
+    let short = b.short in
     let fewer = l.short in
     let len = b.log.ok.0 in
-    let len' = b'.log.ok.0 in
+    let len' = log.ok.0 in
     let many = ap length items in
-    sound-log b b' t nodes clusters (omega arith) (omega arith)
-    (ap (λ (z : List Logged). ascending id_of z) items ∙ l.ascends s.ascends)
-    (ap (ids_below b'.next_id) items ∙ ap (λ (z : ℕ). ids_below z left) next ∙ l.below b.next_id s.below)
-    (ap (addressed (vec_len b.clusters)) items ∙ l.addressed (vec_len b.clusters) s.addressed)
+    record {
+      room = omega arith;
+      short = omega arith;
+      ascends = ap (λ (z : List Logged). ascending nat_cmp id_of z) items ∙ l.ascends b.ascends;
+      below = ap (ids_below b.next_id) items ∙ l.below b.next_id b.below;
+      addressed = ap (addressed (vec_len b.clusters)) items ∙ l.addressed (vec_len b.clusters) b.addressed;
+    }
 
 abbrev pub spent_of : List ℕ → ℕ → ℕ → Spent
 spent_of bs checkpoints messages = record { bounds = bs; checkpoints = checkpoints; messages = messages }
@@ -86,12 +98,6 @@ pub resume_allowed : (v : Shown) (t : Ticket) (r : Restart) → v.restart ≡ So
 resume_allowed v t r opened own settled =
     ap (resume_at v t) opened ∙ cond-true _ _ _ (both_is (holds v t) r.settled own settled)
 
-pub clusters_of_sound : (b : Book) → sound b ≡ true → clusters_sound 0 (vec_items b.clusters) ≡ true
-clusters_of_sound b t =
-    let s = is_sound_lem b t in
-    let len = b.clusters.ok.0 in
-    sound_each 0 (vec_items b.clusters) (λ i c h e. subst (λ (z : ℕ). ClusterSound z c) (omega arith) (s.clusters i c (omega arith) e))
-
 -- a cluster with fewer checkpoints leaves no more of them in all
 kept_set : (cs : List Group) (k : ℕ) (c : Group) → length c.kept ≤ length (get_or cs k nobody).kept → kept_in (set cs k c) ≤ kept_in cs
 kept_set [] k c h = omega arith
@@ -107,8 +113,5 @@ from_fewer bs (suc k) b =
     omega arith
 
 -- every cluster keeps few enough checkpoints
-pub few_kept : (cs : List Cluster) (i : ℕ) (c : Cluster) → clusters_sound 0 cs ≡ true → i < length cs → c ≡ get_or cs i c → length (vec_items c.kept) ≤ 16
-few_kept cs i c t h read =
-    let few = (each_sound 0 cs t i c h read).few in
-    let len = c.kept.ok.0 in
-    omega arith
+pub few_kept : (c : Cluster) → length (vec_items c.kept) ≤ 16
+few_kept c = let few = c.few in let len = c.kept.ok.0 in omega arith

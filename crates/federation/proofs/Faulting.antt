@@ -1,7 +1,8 @@
 -- What a fault tells, with its ticket: the name and the count of the book that it leaves.
 use Rattle.std.proofs.Common.{◌≡◌, ℕ, Some, None, Ok, Err, Option, Result, ap, ap₂, arith}
 use Rattle.refusal.specs.declared.Refusal.{Refusal}
-use Rattle.law.specs.Book.{Book, Ticket, number, unless_refused, replied}
+use Rattle.refusal.specs.Answers.{unless_refused, replied}
+use Rattle.law.specs.Book.{Book, Ticket, number}
 use Rattle.law.specs.Restarts.{fault_refusal, faulted, fault_tells, fault_book, ticket}
 
 value_is : (p n : ℕ) → ◌≡◌ {A = Result ℕ Refusal} (Ok p) (Ok n) → p ≡ n

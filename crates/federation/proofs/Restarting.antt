@@ -1,6 +1,6 @@
 -- What an accepted fault, alert or trial has shown, what an accepted call makes of the open restart, and that the test of a
 -- book does not look at its restart.
-use Rattle.std.proofs.Common.{◌≡◌, ℕ, ◌+◌, ◌<◌, ◌≤◌, Bool, true, ltb, leb, List, length, replicate, is_some, Some, None, Ok, vec_items, vec_len, Option, sym, ap, ◌∙◌, subst, ap₂, add-one, arith}
+use Rattle.std.proofs.Common.{◌≡◌, ℕ, ◌+◌, ◌<◌, ◌≤◌, Bool, ltb, leb, List, length, replicate, is_some, Some, None, Ok, vec_items, vec_len, Option, sym, ap, ◌∙◌, ap₂, add-one, arith}
 use Rattle.std.proofs.lemmas.List.{get_or-set_same}
 use Rattle.std.proofs.lemmas.Bool.{ltb-true, leb-false}
 use Rattle.refusal.specs.declared.Refusal.TheVariants as refuses
@@ -8,15 +8,14 @@ use Rattle.store.specs.Table.{both}
 use Rattle.store.proofs.Orders.{both_true}
 use Rattle.law.specs.declared.Carried.{Carried}
 use Rattle.law.specs.declared.Restart.{Restart}
-use Rattle.law.specs.Book.{Book as Shown, Cluster as Group, Ticket, count, number, with_clusters, with_restart, with_restarts, replied, most_clusters, stays, last_number}
+use Rattle.refusal.specs.Answers.{replied}
+use Rattle.law.specs.Book.{Book as Shown, Cluster as Group, Ticket, count, number, with_clusters, with_restart, with_restarts, most_clusters, stays, last_number}
 use Rattle.law.specs.Restarts.{place, told, begun, drop_rounds, fault_refusal, fault_book, faulted, called_to, carry, alert_refusal, alerted, alert_book, alerted_tells, alert_tells, drained, settle, finished, finish_refusal, finish_book}
 use Rattle.law.specs.Trials.{trial_refusal}
 use Rattle.law.proofs.State.{passes, escapes}
-use Rattle.book.specs.declared.Book.{Book}
-use Rattle.book.specs.declared.Cluster.{Cluster}
-use Rattle.book.specs.Sound.{sound, clusters_sound, ClusterSound}
+use Rattle.book.specs.declared.book.Book.{Book}
+use Rattle.book.specs.declared.cluster.Cluster.{Cluster}
 use Rattle.federation.proofs.Allowed.{done, tells}
-use Rattle.book.proofs.Soundness.{is_sound_lem, sound_each}
 
 pub fault_allowed : (b : Shown) (f : ℕ) → None ≡ fault_refusal b f → (f < count b) × (b.restarts < last_number)
 fault_allowed b f t =
@@ -34,26 +33,13 @@ alert_allowed b t i j e =
 pub trial_allowed : (b : Shown) (f : ℕ) → None ≡ trial_refusal b f → f < count b
 trial_allowed b f t = ltb-true _ _ (passes (ltb f (count b)) refuses.NoCluster _ (sym t)).0
 
-pub clusters_of_sound : (b : Book) → sound b ≡ true → clusters_sound 0 (vec_items b.clusters) ≡ true
-clusters_of_sound b t =
-    let len = b.clusters.ok.0 in
-    sound_each 0 (vec_items b.clusters) (λ i c h e. subst (λ (k : ℕ). ClusterSound k c) (omega arith) ((is_sound_lem b t).clusters i c (omega arith) e))
-
--- the clusters of a sound book, read as a slice
-module _ (b : Book) (cs : List Cluster) (ok : sound b ≡ true) (read : cs ≡ vec_items b.clusters) where
-  pub slice_sound : clusters_sound 0 cs ≡ true
-  slice_sound = subst (λ (z : List Cluster). clusters_sound 0 z ≡ true) (sym read) (clusters_of_sound b ok)
-
+-- the clusters of a book, read as a slice
+module _ (b : Book) (cs : List Cluster) (read : cs ≡ vec_items b.clusters) where
   pub slice_len : length cs ≡ vec_len b.clusters
   slice_len = ap length read ∙ sym b.clusters.ok.0
 
   pub slice_few : length cs ≤ 8
-  slice_few = let few = (is_sound_lem b ok).few in let len = slice_len in omega arith
-
--- another restart, or another count of them, leaves the book sound
-pub sound-restarted : (b : Book) (n : ℕ) (r : Option Restart) → sound b ≡ true → sound (record { name = b.name; nodes = b.nodes; clusters = b.clusters; log = b.log; next_id = b.next_id; restarts = n; restart = r }) ≡ true
-unfolding sound
-sound-restarted b n r ok = ok
+  slice_few = let few = b.few in let len = slice_len in omega arith
 
 -- an accepted fault: x is the book without its rounds
 module _ (b : Shown) (f k : ℕ) (cs : List Group) (r : Restart)

@@ -5,10 +5,11 @@ use Rattle.std.proofs.lemmas.Bool.{leb-true, le-leb, cond-true}
 use Rattle.refusal.specs.declared.Refusal.{Refusal}
 use Rattle.refusal.specs.declared.StoreRefusal.{StoreRefusal}
 use Rattle.refusal.specs.declared.StoreRefusal.TheVariants as store_refuses
-use Rattle.store.specs.Table.{TableRow, lookup, under, words_fit, told, unless, over, read_refused}
+use Rattle.refusal.specs.Answers.{unless_refused, replied}
+use Rattle.store.specs.Table.{TableRow, lookup, under, words_fit, over, read_refused}
 use Rattle.store.specs.Formed.{sized}
 use Rattle.store.proofs.Orders.{both_true}
-use Rattle.law.specs.Book.{replied}
+use Rattle.refusal.specs.Answers.{replied}
 use Rattle.law.specs.Rounds.{from_store}
 use Rattle.federation.specs.Told.{held}
 
@@ -29,11 +30,11 @@ sized_at (row ∷ rows) c n ws all e = by_test (under c n row) (λ f. sized_at r
         subst (λ (l : List ℕ). length l ≤ 32) same (leb-true _ _ (both_true (leb 1 (length row.words)) (leb (length row.words) 32) parts.0).1)
     by_test false rest f = rest f
 
-pub read_held : (o : Option (List ℕ)) (count : ℕ) (buffer now : List ℕ) → Ok count ≡ told (read_refused o 32) (length (unwrap_or o [])) → now ≡ unless (read_refused o 32) buffer (over (unwrap_or o []) buffer) → Ok (take count now) ≡ held o
+pub read_held : (o : Option (List ℕ)) (count : ℕ) (buffer now : List ℕ) → Ok count ≡ replied (read_refused o 32) (length (unwrap_or o [])) → now ≡ unless_refused (read_refused o 32) buffer (over (unwrap_or o []) buffer) → Ok (take count now) ≡ held o
 read_held None count buffer now e l = absurd (nothing e)
 read_held (Some ws) count buffer now e l = by_test (leb (length ws) 32) e l
   where
-    by_test : (t : Bool) → Ok count ≡ told (cond t None (Some store_refuses.WordCount)) (length ws) → now ≡ unless (cond t None (Some store_refuses.WordCount)) buffer (over ws buffer) → Ok (take count now) ≡ held (Some ws)
+    by_test : (t : Bool) → Ok count ≡ replied (cond t None (Some store_refuses.WordCount)) (length ws) → now ≡ unless_refused (cond t None (Some store_refuses.WordCount)) buffer (over ws buffer) → Ok (take count now) ≡ held (Some ws)
     by_test true f g =
         let as_many : count ≡ length ws = cc in
         let front : take count now ≡ ws = ap₂ (λ (k : ℕ) (x : List ℕ). take k x) as_many g ∙ take_at ws (drop (length ws) buffer) (length ws) refl in

@@ -10,7 +10,8 @@ use Rattle.law.specs.declared.Round.{Round}
 use Rattle.law.specs.declared.Noted.{Noted}
 use Rattle.law.specs.declared.Noted.TheVariants.{Committed}
 use Rattle.store.specs.Table.{keep_refusal}
-use Rattle.law.specs.Book.{Book, at, count, number, or_zero, unless_refused, replied}
+use Rattle.refusal.specs.Answers.{unless_refused, replied}
+use Rattle.law.specs.Book.{Book, at, count, number, or_zero}
 use Rattle.law.specs.Rounds.{from_store, committed}
 
 abbrev pub unanswered : ℕ → Option Round → Result Round Refusal

@@ -10,7 +10,8 @@ use Rattle.law.specs.declared.Logged.{Logged}
 use Rattle.law.specs.declared.Message.{Message}
 use Rattle.law.specs.declared.Arrived.{Arrived}
 use Rattle.law.specs.declared.Arrived.TheVariants.{Forced}
-use Rattle.law.specs.Book.{Book, at, number, logged, unless_refused, replied}
+use Rattle.refusal.specs.Answers.{unless_refused, replied}
+use Rattle.law.specs.Book.{Book, at, number, logged}
 use Rattle.law.specs.Messages.{round_refusal, open_round}
 use Rattle.book.specs.Logs.{no_logged}
 

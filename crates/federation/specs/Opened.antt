@@ -15,8 +15,8 @@ abbrev pub ClosedFor : ℕ → ℕ → Model → Closed → Type 0
 ClosedFor n nodes m (Refused why) = open_refusal n nodes m ≡ Some why
 ClosedFor n nodes m NoMemory = open_refusal n nodes m ≡ None
 
-abbrev pub Opened : {S R : Type 0} → (S → Model) → (S → Type 0) → ℕ → ℕ → ℕ → R → S → Result (Federation S R) (NotOpened S R) → Type 0
-Opened model sound name n nodes rule store (Ok f) =
-    (open_refusal n nodes (model store) ≡ None) × (shown model f ≡ open_book name n nodes (model store)) × (f.rule ≡ rule) × sound f.store
-Opened model sound name n nodes rule store (Err back) =
+abbrev pub Opened : {S R : Type 0} → (S → Model) → ℕ → ℕ → ℕ → R → S → Result (Federation S R) (NotOpened S R) → Type 0
+Opened model name n nodes rule store (Ok f) =
+    (open_refusal n nodes (model store) ≡ None) × (shown model f ≡ open_book name n nodes (model store)) × (f.rule ≡ rule)
+Opened model name n nodes rule store (Err back) =
     ClosedFor n nodes (model store) back.why × (back.store ≡ store) × (back.rule ≡ rule)

@@ -5,7 +5,7 @@
 use Rattle.std.specs.Prelude.{ℕ, List, Ok, Err, Option, Result}
 use Rattle.arrayvec.specs.ArrayVec.{ArrayVec}
 use Rattle.refusal.specs.declared.Refusal.{Refusal}
-use Rattle.law.specs.Book.{replied}
+use Rattle.refusal.specs.Answers.{replied}
 use Rattle.law.specs.Storing.{held_by, words_held}
 
 abbrev pub told_list : {T : Type 0} → Result (ArrayVec T) Refusal → Result (List T) Refusal

@@ -5,7 +5,6 @@ ghost use Rattle.law.specs.Book.{with_log, with_restart};
 ghost use Rattle.law.specs.Restarts.{resumed_to, tells_places, log_back, again as go_again, resume_tells, resume_book};
 ghost use Rattle.law.specs.Trials.{bounds as bounds_of, from_bounds, log_from, kept_in, collected, collect_tells, collect_book};
 ghost use Rattle.book.specs.View.{view, bare, group, groups};
-ghost use Rattle.book.specs.Sound.{sound as is_sound, clusters_sound};
 ghost use Rattle.federation.specs.Collecting.{spent, collected_of, collect_told, resume_told};
 ghost use Rattle.federation.specs.Tickets.{numbered};
 
@@ -22,10 +21,8 @@ use store::Store;
 
 // The log after clusters went back to their places, with the restart ended; tells the ids of the messages that go again.
 fn undo_messages(book: &mut Book, places: &[u32; 8]) -> ArrayVec<u32, 128>
-    requires { is_sound book.old ≡ true }
     ensures value { result.items ≡ go_again places.now (log_back places.now book.old.log.items) }
     ensures after { (m : Model) → view book.new m ≡ with_restart (with_log (view book.old m) (log_back places.now book.old.log.items)) None }
-    ensures sound { is_sound book.new ≡ true }
 {
     log_back(&mut book.log, places);
     book.restart = None;
@@ -34,12 +31,8 @@ fn undo_messages(book: &mut Book, places: &[u32; 8]) -> ArrayVec<u32, 128>
 
 // Every cluster goes back to its place, and the restart ends.
 pub(crate) fn go_back<S: Store>(book: &mut Book, store: &mut S, places: [u32; 8]) -> Resumed
-    requires sound { is_sound book.old ≡ true }
-    requires store_sound { S.Store.sound store.old }
     ensures answer { (result.places.items ≡ tells_places (vec_len book.old.clusters) places) × (result.ids.items ≡ go_again places (log_back places book.old.log.items)) }
     ensures after { view book.new (S.Store.model store.new) ≡ resumed_to places (view book.old (S.Store.model store.old)) }
-    ensures sound { is_sound book.new ≡ true }
-    ensures store_sound { S.Store.sound store.new }
 {
     let clusters = count(book);
     back_to(book, store, places);
@@ -56,12 +49,8 @@ pub(crate) fn resume<S: Store>(
     store: &mut S,
     ticket: TicketNumbers,
 ) -> Result<Resumed, Refusal>
-    requires sound { is_sound book.old ≡ true }
-    requires store_sound { S.Store.sound store.old }
     ensures answer { resume_told result ≡ resume_tells (view book.old (S.Store.model store.old)) (numbered ticket) }
     ensures after { view book.new (S.Store.model store.new) ≡ resume_book (view book.old (S.Store.model store.old)) (numbered ticket) }
-    ensures sound { is_sound book.new ≡ true }
-    ensures store_sound { S.Store.sound store.new }
 {
     let restart = opened(book, ticket, true)?;
     Ok(go_back(book, store, restart.places))
@@ -69,8 +58,7 @@ pub(crate) fn resume<S: Store>(
 
 // How many checkpoints these clusters keep.
 fn kept_in(clusters: &[Cluster]) -> u8
-    requires few { length clusters.now ≤ 8 }
-    requires sound { clusters_sound 0 clusters.now ≡ true }
+    requires { length clusters.now ≤ 8 }
     ensures { result ≡ kept_in (map group clusters.now) }
 {
     let mut sum = 0;
@@ -82,21 +70,16 @@ fn kept_in(clusters: &[Cluster]) -> u8
 
 // Below these numbers no later fault can need a checkpoint. The restart is as it was.
 fn lowest_bounds(book: &mut Book) -> [u32; 8]
-    requires { is_sound book.old ≡ true }
     ensures value { result ≡ bounds_of (bare book.old) }
-    ensures same { book.new ≡ book.old }
+    ensures same { (m : Model) → view book.new m ≡ view book.old m }
 {
     bounds(&mut book.restart, book.clusters.as_slice())
 }
 
 // Drops the checkpoints below their cluster's bound, and tells how many they were.
 fn drop_checkpoints<S: Store>(book: &mut Book, store: &mut S, bounds: [u32; 8]) -> u8
-    requires sound { is_sound book.old ≡ true }
-    requires store_sound { S.Store.sound store.old }
     ensures value { result ≡ kept_in (groups book.old) - kept_in (groups book.new) }
     ensures after { view book.new (S.Store.model store.new) ≡ from_bounds bounds (vec_len book.old.clusters) (view book.old (S.Store.model store.old)) }
-    ensures sound { is_sound book.new ≡ true }
-    ensures store_sound { S.Store.sound store.new }
 {
     let before = kept_in(book.clusters.as_slice());
     from_bounds(book, store, bounds);
@@ -105,10 +88,8 @@ fn drop_checkpoints<S: Store>(book: &mut Book, store: &mut S, bounds: [u32; 8]) 
 
 // Drops the messages received below their receiver's bound, and tells how many they were.
 fn drop_messages(book: &mut Book, bounds: &[u32; 8]) -> u8
-    requires { is_sound book.old ≡ true }
     ensures value { result ≡ length book.old.log.items - length book.new.log.items }
     ensures after { (m : Model) → view book.new m ≡ with_log (view book.old m) (log_from bounds.now book.old.log.items) }
-    ensures sound { is_sound book.new ≡ true }
 {
     let before = book.log.len();
     log_from(&mut book.log, bounds);
@@ -117,12 +98,8 @@ fn drop_messages(book: &mut Book, bounds: &[u32; 8]) -> u8
 
 // Drops what no later fault can need.
 pub(crate) fn drop_spent<S: Store>(book: &mut Book, store: &mut S) -> Collected
-    requires sound { is_sound book.old ≡ true }
-    requires store_sound { S.Store.sound store.old }
     ensures answer { collected_of result ≡ spent (view book.old (S.Store.model store.old)) }
     ensures after { view book.new (S.Store.model store.new) ≡ collected (view book.old (S.Store.model store.old)) }
-    ensures sound { is_sound book.new ≡ true }
-    ensures store_sound { S.Store.sound store.new }
 {
     let lowest = lowest_bounds(book);
     let clusters = count(book);
@@ -139,12 +116,8 @@ pub(crate) fn drop_spent<S: Store>(book: &mut Book, store: &mut S) -> Collected
 
 // Drops what no later fault can need, unless a restart is open.
 pub(crate) fn collect<S: Store>(book: &mut Book, store: &mut S) -> Result<Collected, Refusal>
-    requires sound { is_sound book.old ≡ true }
-    requires store_sound { S.Store.sound store.old }
     ensures answer { collect_told result ≡ collect_tells (view book.old (S.Store.model store.old)) }
     ensures after { view book.new (S.Store.model store.new) ≡ collect_book (view book.old (S.Store.model store.old)) }
-    ensures sound { is_sound book.new ≡ true }
-    ensures store_sound { S.Store.sound store.new }
 {
     if book.restart.is_some() {
         return Err(Refusal::RestartOpen);

@@ -1,6 +1,4 @@
 // A federation: its book, the store that holds the words of its checkpoints, and its forcing rule.
-ghost use Rattle.std.specs.Prelude.{◌≡◌, true};
-ghost use Rattle.book.specs.Sound.{sound as is_sound};
 
 use book::Book;
 
@@ -16,5 +14,4 @@ pub struct Federation<S, R> {
     book: Book,
     store: S,
     rule: R,
-    ghost sound: { is_sound book ≡ true },
 }

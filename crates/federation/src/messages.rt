@@ -6,7 +6,6 @@ ghost use Rattle.law.specs.Book.{at, number as number_in};
 ghost use Rattle.law.specs.Messages.{send_refusal, send_tells, send_book, deliver as delivered};
 ghost use Rattle.book.specs.View.{view, bare};
 ghost use Rattle.book.specs.Logs.{message_at};
-ghost use Rattle.book.specs.Sound.{sound as is_sound};
 ghost use Rattle.federation.specs.Arrivable.{arrivable as may_arrive, placed, force_tells, force_book};
 
 use crate::answers::new_round;
@@ -17,7 +16,6 @@ use refusal::Refusal;
 
 // Whether the call is accepted, and why not.
 fn may_send(book: &Book, from: u8, to: u8) -> Result<(), Refusal>
-    requires { is_sound book.now ≡ true }
     ensures accepts { OnOk result (send_refusal (bare book.now) from to ≡ None) }
     ensures refuses { IfErr result (λ why. send_refusal (bare book.now) from to ≡ Some why) }
 {
@@ -44,10 +42,8 @@ fn may_send(book: &Book, from: u8, to: u8) -> Result<(), Refusal>
 }
 
 pub(crate) fn send(book: &mut Book, from: u8, to: u8, word: u64) -> Result<Sent, Refusal>
-    requires { is_sound book.old ≡ true }
     ensures answer { (m : Model) → result ≡ send_tells (view book.old m) from to word }
     ensures after { (m : Model) → view book.new m ≡ send_book (view book.old m) from to word }
-    ensures sound { is_sound book.new ≡ true }
 {
     may_send(book, from, to)?;
     let i = usize::from(from);
@@ -69,7 +65,6 @@ fn round_open(book: &Book, message: Message) -> bool
 
 // Where the message stands that may arrive now.
 pub(crate) fn arrivable(book: &Book, id: u32, rank: u8) -> Result<usize, Refusal>
-    requires { is_sound book.now ≡ true }
     ensures value { placed book.now.log.items result ≡ may_arrive (bare book.now) id rank }
     ensures within { IfOk result (λ place. place < vec_len book.now.log) }
 {
@@ -92,8 +87,7 @@ pub(crate) fn arrivable(book: &Book, id: u32, rank: u8) -> Result<usize, Refusal
 
 // The message at a place of the log: it goes between clusters that exist.
 pub(crate) fn message_at(book: &Book, place: usize) -> Message
-    requires within { place < vec_len book.now.log }
-    requires sound { is_sound book.now ≡ true }
+    requires { place < vec_len book.now.log }
     ensures value { result ≡ message_at book.now.log.items place }
     ensures to { result.to < vec_len book.now.clusters }
     ensures few { (result.to < 8) × (result.from < 8) }
@@ -105,10 +99,8 @@ pub(crate) fn message_at(book: &Book, place: usize) -> Message
 pub(crate) fn force(book: &mut Book, place: usize, rank: u8) -> Result<Arrived, Refusal>
     requires within { place < vec_len book.old.log }
     requires closed { (at (bare book.old) (message_at book.old.log.items place).to).round ≡ None }
-    requires sound { is_sound book.old ≡ true }
     ensures answer { (m : Model) → result ≡ force_tells (view book.old m) (message_at book.old.log.items place) }
     ensures after { (m : Model) → view book.new m ≡ force_book (view book.old m) (message_at book.old.log.items place) rank }
-    ensures sound { is_sound book.new ≡ true }
 {
     let message = message_at(book, place);
     let to = usize::from(message.to);
@@ -120,11 +112,9 @@ pub(crate) fn force(book: &mut Book, place: usize, rank: u8) -> Result<Arrived, 
 
 // The rule lets the message pass: it is delivered now.
 pub(crate) fn deliver(book: &mut Book, place: usize) -> Arrived
-    requires within { place < vec_len book.old.log }
-    requires sound { is_sound book.old ≡ true }
+    requires { place < vec_len book.old.log }
     ensures answer { result ≡ Delivered (number_in (bare book.old) (message_at book.old.log.items place).to) }
     ensures after { (m : Model) → view book.new m ≡ delivered (view book.old m) (message_at book.old.log.items place) }
-    ensures sound { is_sound book.new ≡ true }
 {
     let to = usize::from(message_at(book, place).to);
     let number = cluster_at(book, to).row[to];

@@ -1,10 +1,10 @@
 // Fault, alert and finish: a restart is opened, its alerts are carried, and it is settled.
 ghost use Rattle.std.specs.Prelude.{◌≡◌, ◌<◌, true, IfOk, IfErr, OnOk, Some, None};
 ghost use Rattle.store.specs.Table.{Model};
-ghost use Rattle.law.specs.Book.{number as number_in, replied};
+ghost use Rattle.refusal.specs.Answers.{replied};
+ghost use Rattle.law.specs.Book.{number as number_in};
 ghost use Rattle.law.specs.Restarts.{fault_refusal, fault_book, ticket as newest, waits as waits_in, holds as holds_in, alert_refusal, alert_tells, alert_book, finish_tells, finish_book};
 ghost use Rattle.book.specs.View.{view, bare};
-ghost use Rattle.book.specs.Sound.{sound as is_sound};
 ghost use Rattle.federation.specs.Tickets.{numbered, stage_refusal};
 
 use crate::sight::count as count_of;
@@ -16,7 +16,6 @@ use refusal::Refusal;
 
 // Whether a fault is accepted, and why not.
 fn may_fault(book: &Book, cluster: u8) -> Result<(), Refusal>
-    requires { is_sound book.now ≡ true }
     ensures accepts { OnOk result (fault_refusal (bare book.now) cluster ≡ None) }
     ensures refuses { IfErr result (λ why. fault_refusal (bare book.now) cluster ≡ Some why) }
 {
@@ -34,10 +33,8 @@ fn may_fault(book: &Book, cluster: u8) -> Result<(), Refusal>
 
 // A cluster has failed: every open round is dropped, and a restart opens. Tells the place of the failed cluster.
 pub(crate) fn fault(book: &mut Book, cluster: u8) -> Result<u32, Refusal>
-    requires { is_sound book.old ≡ true }
     ensures answer { (m : Model) → result ≡ replied (fault_refusal (view book.old m) cluster) (number_in (view book.old m) cluster) }
     ensures after { (m : Model) → view book.new m ≡ fault_book (view book.old m) cluster }
-    ensures sound { is_sound book.new ≡ true }
 {
     may_fault(book, cluster)?;
     let i = usize::from(cluster);
@@ -76,7 +73,6 @@ fn waits(restart: &Restart, from: usize, to: usize) -> bool
 
 // The open restart, in which this alert waits and may be carried on this ticket.
 fn alerted(book: &Book, ticket: TicketNumbers, from: u8, to: u8) -> Result<Restart, Refusal>
-    requires { is_sound book.now ≡ true }
     ensures opened { IfOk result (λ restart. book.now.restart ≡ Some restart) }
     ensures accepts { OnOk result (alert_refusal (bare book.now) (numbered ticket) from to ≡ None) }
     ensures refuses { IfErr result (λ why. alert_refusal (bare book.now) (numbered ticket) from to ≡ Some why) }
@@ -108,10 +104,8 @@ pub(crate) fn alert(
     from: u8,
     to: u8,
 ) -> Result<Carried, Refusal>
-    requires { is_sound book.old ≡ true }
     ensures answer { (m : Model) → result ≡ alert_tells (view book.old m) (numbered ticket) from to }
     ensures after { (m : Model) → view book.new m ≡ alert_book (view book.old m) (numbered ticket) from to }
-    ensures sound { is_sound book.new ≡ true }
 {
     let mut restart = alerted(book, ticket, from, to)?;
     let j = usize::from(to);
@@ -139,10 +133,8 @@ pub(crate) fn opened(book: &Book, ticket: TicketNumbers, settled: bool) -> Resul
 
 // Carries every alert that waits, and settles the restart.
 pub(crate) fn finish(book: &mut Book, ticket: TicketNumbers) -> Result<(), Refusal>
-    requires { is_sound book.old ≡ true }
     ensures answer { (m : Model) → result ≡ finish_tells (view book.old m) (numbered ticket) }
     ensures after { (m : Model) → view book.new m ≡ finish_book (view book.old m) (numbered ticket) }
-    ensures sound { is_sound book.new ≡ true }
 {
     let mut restart = opened(book, ticket, false)?;
     drain(&mut restart, book.clusters.as_slice());

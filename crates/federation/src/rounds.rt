@@ -5,7 +5,6 @@ ghost use Rattle.law.specs.Book.{at, number as number_in, logged as find, with_c
 ghost use Rattle.law.specs.Rounds.{request_refusal, request_tells, request_book, saved, deliver_waiting, deliver_logged};
 ghost use Rattle.federation.specs.Answerable.{answerable as may_answer};
 ghost use Rattle.book.specs.View.{view, bare};
-ghost use Rattle.book.specs.Sound.{sound as is_sound};
 
 use crate::answers::requested;
 use crate::sight::{cluster as cluster_at, count, logged, may_open, nodes};
@@ -15,7 +14,6 @@ use refusal::Refusal;
 
 // Whether a request is accepted, and why not.
 fn may_request(book: &Book, cluster: u8, rank: u8) -> Result<(), Refusal>
-    requires { is_sound book.now ≡ true }
     ensures accepts { OnOk result (request_refusal (bare book.now) cluster rank ≡ None) }
     ensures refuses { IfErr result (λ why. request_refusal (bare book.now) cluster rank ≡ Some why) }
 {
@@ -37,10 +35,8 @@ fn may_request(book: &Book, cluster: u8, rank: u8) -> Result<(), Refusal>
 
 // Opens a round with this initiator, or takes an open one over where the rank is lower.
 pub(crate) fn request(book: &mut Book, cluster: u8, rank: u8) -> Result<u8, Refusal>
-    requires { is_sound book.old ≡ true }
     ensures answer { (m : Model) → result ≡ request_tells (view book.old m) cluster rank }
     ensures after { (m : Model) → view book.new m ≡ request_book (view book.old m) cluster rank }
-    ensures sound { is_sound book.new ≡ true }
 {
     may_request(book, cluster, rank)?;
     let i = usize::from(cluster);
@@ -51,7 +47,6 @@ pub(crate) fn request(book: &mut Book, cluster: u8, rank: u8) -> Result<u8, Refu
 
 // The open round in which this node may answer.
 pub(crate) fn answerable(book: &Book, cluster: u8, rank: u8) -> Result<Round, Refusal>
-    requires { is_sound book.now ≡ true }
     ensures value { result ≡ may_answer (bare book.now) cluster rank }
     ensures within { IfOk result (λ round. (cluster < vec_len book.now.clusters) × (rank < 32) × (is_some (at (bare book.now) cluster).round ≡ true)) }
 {
@@ -76,9 +71,7 @@ pub(crate) fn answerable(book: &Book, cluster: u8, rank: u8) -> Result<Round, Re
 pub(crate) fn note(book: &mut Book, cluster: u8, round: Round)
     requires within { cluster < vec_len book.old.clusters }
     requires opened { is_some (at (bare book.old) cluster).round ≡ true }
-    requires sound { is_sound book.old ≡ true }
-    ensures after { (m : Model) → view book.new m ≡ with_cluster (view book.old m) cluster (with_round (at (view book.old m) cluster) (Some round)) }
-    ensures sound { is_sound book.new ≡ true }
+    ensures { (m : Model) → view book.new m ≡ with_cluster (view book.old m) cluster (with_round (at (view book.old m) cluster) (Some round)) }
 {
     book.set_round(usize::from(cluster), Some(round));
 }
@@ -87,9 +80,7 @@ pub(crate) fn note(book: &mut Book, cluster: u8, round: Round)
 pub(crate) fn commit(book: &mut Book, cluster: u8, waiting: Option<u32>)
     requires within { cluster < vec_len book.old.clusters }
     requires opened { is_some (at (bare book.old) cluster).round ≡ true }
-    requires sound { is_sound book.old ≡ true }
-    ensures after { (m : Model) → view book.new m ≡ deliver_waiting (with_cluster (view book.old m) cluster (saved cluster (at (view book.old m) cluster))) waiting }
-    ensures sound { is_sound book.new ≡ true }
+    ensures { (m : Model) → view book.new m ≡ deliver_waiting (with_cluster (view book.old m) cluster (saved cluster (at (view book.old m) cluster))) waiting }
 {
     book.commit(usize::from(cluster));
     if let Some(id) = waiting {
@@ -99,9 +90,7 @@ pub(crate) fn commit(book: &mut Book, cluster: u8, waiting: Option<u32>)
 
 // Delivers the message with this id, if the log has it.
 fn deliver_logged(book: &mut Book, id: u32)
-    requires { is_sound book.old ≡ true }
-    ensures after { (m : Model) → view book.new m ≡ deliver_logged (view book.old m) (find book.old.log.items id) }
-    ensures sound { is_sound book.new ≡ true }
+    ensures { (m : Model) → view book.new m ≡ deliver_logged (view book.old m) (find book.old.log.items id) }
 {
     if let Some(place) = logged(book, id) {
         book.deliver(place);
@@ -112,7 +101,6 @@ fn deliver_logged(book: &mut Book, id: u32)
 pub(crate) fn next_number(book: &Book, cluster: u8) -> u32
     requires within { cluster < vec_len book.now.clusters }
     requires opened { is_some (at (bare book.now) cluster).round ≡ true }
-    requires sound { is_sound book.now ≡ true }
     ensures { result ≡ suc (number_in (bare book.now) cluster) }
 {
     let i = usize::from(cluster);

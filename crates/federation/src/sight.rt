@@ -4,7 +4,6 @@ ghost use Rattle.law.specs.Book.{at, checkpoint_at, count as counted};
 ghost use Rattle.federation.specs.Reading.{not_kept};
 ghost use Rattle.law.specs.Messages.{round_refusal};
 ghost use Rattle.book.specs.Finding.{LoggedAt};
-ghost use Rattle.book.specs.Sound.{sound as is_sound};
 ghost use Rattle.book.specs.View.{bare, group};
 
 use book::{Book, Cluster, LAST_NUMBER, MOST_KEPT, checkpoint_at, logged_at};
@@ -12,7 +11,6 @@ use law::Checkpoint;
 use refusal::Refusal;
 
 pub(crate) fn count(book: &Book) -> usize
-    requires { is_sound book.now ≡ true }
     ensures value { result ≡ counted (bare book.now) }
     ensures len { result ≡ vec_len book.now.clusters }
     ensures few { result ≤ 8 }
@@ -21,7 +19,6 @@ pub(crate) fn count(book: &Book) -> usize
 }
 
 pub(crate) fn nodes(book: &Book) -> u8
-    requires { is_sound book.now ≡ true }
     ensures value { result ≡ book.now.nodes }
     ensures few { result ≤ 32 }
 {
@@ -30,7 +27,6 @@ pub(crate) fn nodes(book: &Book) -> u8
 
 // Where the message with this id stands in the log.
 pub(crate) fn logged(book: &Book, id: u32) -> Option<usize>
-    requires { is_sound book.now ≡ true }
     ensures { LoggedAt book.now.log.items id result }
 {
     logged_at(&book.log, id)
@@ -62,7 +58,6 @@ pub(crate) fn may_open(book: &Book, i: usize) -> Result<(), Refusal>
 
 // Whether a checkpoint is kept; else there is no such cluster, or it does not keep it.
 pub(crate) fn is_kept(book: &Book, cluster: u8, number: u32) -> Result<(), Refusal>
-    requires { is_sound book.now ≡ true }
     ensures accepts { OnOk result (not_kept (bare book.now) cluster number ≡ None) }
     ensures refuses { IfErr result (λ why. not_kept (bare book.now) cluster number ≡ Some why) }
 {
@@ -77,8 +72,7 @@ pub(crate) fn is_kept(book: &Book, cluster: u8, number: u32) -> Result<(), Refus
 }
 
 fn kept_at(book: &Book, i: usize, number: u32) -> Option<Checkpoint>
-    requires within { i < vec_len book.now.clusters }
-    requires sound { is_sound book.now ≡ true }
+    requires { i < vec_len book.now.clusters }
     ensures { result ≡ checkpoint_at (at (bare book.now) i).kept number }
 {
     checkpoint_at(&cluster(book, i).kept, number)

@@ -3,7 +3,6 @@ ghost use Rattle.std.specs.Prelude.{◌≡◌, true, IfErr, OnOk, Some, None};
 ghost use Rattle.store.specs.Table.{Model};
 ghost use Rattle.law.specs.Trials.{trial_refusal, trial_tells};
 ghost use Rattle.book.specs.View.{view, bare};
-ghost use Rattle.book.specs.Sound.{sound as is_sound};
 ghost use Rattle.federation.specs.Told.{told_list};
 
 use crate::sight::count;
@@ -14,7 +13,6 @@ use refusal::Refusal;
 
 // Whether a trial is accepted, and why not.
 fn may_try(book: &Book, cluster: u8) -> Result<(), Refusal>
-    requires { is_sound book.now ≡ true }
     ensures accepts { OnOk result (trial_refusal (bare book.now) cluster ≡ None) }
     ensures refuses { IfErr result (λ why. trial_refusal (bare book.now) cluster ≡ Some why) }
 {
@@ -29,10 +27,8 @@ fn may_try(book: &Book, cluster: u8) -> Result<(), Refusal>
 
 // The places to which a fault of this cluster would lead. The book is as it was.
 pub(crate) fn trial(book: &mut Book, cluster: u8) -> Result<ArrayVec<u32, 8>, Refusal>
-    requires { is_sound book.old ≡ true }
     ensures answer { (m : Model) → told_list result ≡ trial_tells (view book.old m) cluster }
     ensures after { (m : Model) → view book.new m ≡ view book.old m }
-    ensures sound { is_sound book.new ≡ true }
 {
     may_try(book, cluster)?;
     let places = tried(

@@ -34,8 +34,8 @@ pub record Replaying (says : Rule) (name n nodes : ℕ) (store : Model) (these :
   -- the law of lost work, of these calls and their answers, and of the log and the table that are left
   pub law : Law n nodes says (history nodes (map told es) (new_told nodes)) now
 
-abbrev pub Outcome : {S R : Type 0} → Rule → (S → Model) → (S → Type 0) → ℕ → ℕ → ℕ → R → S → List Call → Result (Replayed S R) (ReplayError S R) → Type 0
-Outcome says model sound name n nodes rule store calls (Ok r) =
-    Replaying says name n nodes (model store) calls (vec_items r.exchanges) (shown model r.federation) × sound r.federation.store
-Outcome says model sound name n nodes rule store calls (Err (NotOpened back)) = Opened model sound name n nodes rule store (Err back)
-Outcome says model sound name n nodes rule store calls (Err (NoMemory f)) = Opened model sound name n nodes rule store (Ok f)
+abbrev pub Outcome : {S R : Type 0} → Rule → (S → Model) → ℕ → ℕ → ℕ → R → S → List Call → Result (Replayed S R) (ReplayError S R) → Type 0
+Outcome says model name n nodes rule store calls (Ok r) =
+    Replaying says name n nodes (model store) calls (vec_items r.exchanges) (shown model r.federation)
+Outcome says model name n nodes rule store calls (Err (NotOpened back)) = Opened model name n nodes rule store (Err back)
+Outcome says model name n nodes rule store calls (Err (NoMemory f)) = Opened model name n nodes rule store (Ok f)

@@ -43,9 +43,7 @@ fn fault<S: SidedStore, R: ForcingRule>(
     held: Option<Held>,
     cluster: u8,
 ) -> Made
-    requires { S.Store.sound federation.old.store }
-    ensures made { Stepped R.ForcingRule.says (shown S.Store.model federation.old) (shown S.Store.model federation.new) (fault_call cluster) result.exchange }
-    ensures sound { S.Store.sound federation.new.store }
+    ensures { Stepped R.ForcingRule.says (shown S.Store.model federation.old) (shown S.Store.model federation.new) (fault_call cluster) result.exchange }
 {
     match federation.fault(cluster) {
         Ok(Faulted { place, ticket }) => {
@@ -75,9 +73,7 @@ fn alert_on<S: SidedStore, R: ForcingRule>(
     from: u8,
     to: u8,
 ) -> Exchange
-    requires { S.Store.sound federation.old.store }
-    ensures made { Stepped R.ForcingRule.says (shown S.Store.model federation.old) (shown S.Store.model federation.new) (alert_call from to) result }
-    ensures sound { S.Store.sound federation.new.store }
+    ensures { Stepped R.ForcingRule.says (shown S.Store.model federation.old) (shown S.Store.model federation.new) (alert_call from to) result }
 {
     let answer = federation.alert(ticket, from, to);
     Exchange::Alert {
@@ -92,9 +88,7 @@ fn finish_on<S: SidedStore, R: ForcingRule>(
     federation: &mut Federation<S, R>,
     ticket: Ticket<Travelling>,
 ) -> Made
-    requires { S.Store.sound federation.old.store }
-    ensures made { Stepped R.ForcingRule.says (shown S.Store.model federation.old) (shown S.Store.model federation.new) finish_call result.exchange }
-    ensures sound { S.Store.sound federation.new.store }
+    ensures { Stepped R.ForcingRule.says (shown S.Store.model federation.old) (shown S.Store.model federation.new) finish_call result.exchange }
 {
     let numbers = ticket.numbers();
     match federation.finish(ticket) {
@@ -119,9 +113,7 @@ fn resume_on<S: SidedStore, R: ForcingRule>(
     federation: &mut Federation<S, R>,
     ticket: Ticket<Settled>,
 ) -> Made
-    requires { S.Store.sound federation.old.store }
-    ensures made { Stepped R.ForcingRule.says (shown S.Store.model federation.old) (shown S.Store.model federation.new) resume_call result.exchange }
-    ensures sound { S.Store.sound federation.new.store }
+    ensures { Stepped R.ForcingRule.says (shown S.Store.model federation.old) (shown S.Store.model federation.new) resume_call result.exchange }
 {
     let numbers = ticket.numbers();
     match federation.resume(ticket) {
@@ -151,9 +143,7 @@ fn alert<S: SidedStore, R: ForcingRule>(
     from: u8,
     to: u8,
 ) -> Made
-    requires { S.Store.sound federation.old.store }
-    ensures made { Stepped R.ForcingRule.says (shown S.Store.model federation.old) (shown S.Store.model federation.new) (alert_call from to) result.exchange }
-    ensures sound { S.Store.sound federation.new.store }
+    ensures { Stepped R.ForcingRule.says (shown S.Store.model federation.old) (shown S.Store.model federation.new) (alert_call from to) result.exchange }
 {
     match held {
         Some(Held::Travelling(ticket)) => {
@@ -176,9 +166,7 @@ fn finish<S: SidedStore, R: ForcingRule>(
     federation: &mut Federation<S, R>,
     held: Option<Held>,
 ) -> Made
-    requires { S.Store.sound federation.old.store }
-    ensures made { Stepped R.ForcingRule.says (shown S.Store.model federation.old) (shown S.Store.model federation.new) finish_call result.exchange }
-    ensures sound { S.Store.sound federation.new.store }
+    ensures { Stepped R.ForcingRule.says (shown S.Store.model federation.old) (shown S.Store.model federation.new) finish_call result.exchange }
 {
     match held {
         Some(Held::Travelling(ticket)) => finish_on(federation, ticket),
@@ -193,9 +181,7 @@ fn resume<S: SidedStore, R: ForcingRule>(
     federation: &mut Federation<S, R>,
     held: Option<Held>,
 ) -> Made
-    requires { S.Store.sound federation.old.store }
-    ensures made { Stepped R.ForcingRule.says (shown S.Store.model federation.old) (shown S.Store.model federation.new) resume_call result.exchange }
-    ensures sound { S.Store.sound federation.new.store }
+    ensures { Stepped R.ForcingRule.says (shown S.Store.model federation.old) (shown S.Store.model federation.new) resume_call result.exchange }
 {
     match held {
         Some(Held::Settled(ticket)) => resume_on(federation, ticket),
@@ -212,9 +198,7 @@ pub(crate) fn make<S: SidedStore, R: ForcingRule>(
     held: Option<Held>,
     call: Call,
 ) -> Made
-    requires { S.Store.sound federation.old.store }
-    ensures made { Stepped R.ForcingRule.says (shown S.Store.model federation.old) (shown S.Store.model federation.new) call result.exchange }
-    ensures sound { S.Store.sound federation.new.store }
+    ensures { Stepped R.ForcingRule.says (shown S.Store.model federation.old) (shown S.Store.model federation.new) call result.exchange }
 {
     let exchange = match call {
         Call::Fault { cluster } => return fault(federation, held, cluster),

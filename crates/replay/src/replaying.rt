@@ -35,8 +35,7 @@ pub fn replay<S: SidedStore, R: ForcingRule>(
     calls: &[Call],
     heap: Global,
 ) -> Result<Replayed<S, R>, ReplayError<S, R>>
-    requires { S.Store.sound store }
-    ensures { Outcome R.ForcingRule.says S.Store.model S.Store.sound name clusters nodes rule store calls.now result }
+    ensures { Outcome R.ForcingRule.says S.Store.model name clusters nodes rule store calls.now result }
 {
     let mut federation = match Federation::open(name, clusters, nodes, rule, store, heap) {
         Ok(federation) => federation,
@@ -59,11 +58,9 @@ fn make_all<S: SidedStore, R: ForcingRule>(
     calls: &[Call],
     exchanges: &mut Vec<Exchange>,
 ) -> Option<Held>
-    requires sound { S.Store.sound federation.old.store }
     requires empty { exchanges.old.items ≡ [] }
     requires room { length calls.now ≤ vec_capacity exchanges.old }
-    ensures run { Run R.ForcingRule.says (shown S.Store.model federation.old) calls.now exchanges.new.items (shown S.Store.model federation.new) }
-    ensures sound { S.Store.sound federation.new.store }
+    ensures { Run R.ForcingRule.says (shown S.Store.model federation.old) calls.now exchanges.new.items (shown S.Store.model federation.new) }
 {
     let mut held = None;
     for call in calls {

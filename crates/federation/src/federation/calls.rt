@@ -1,6 +1,7 @@
 // The calls. What is the book's stands in modules of its own; here the store and the rule come to it.
 ghost use Rattle.std.specs.Prelude.{◌≡◌, ◌<◌, true, is_some, Some, vec_len};
-ghost use Rattle.law.specs.Book.{at, unless_refused, replied};
+ghost use Rattle.refusal.specs.Answers.{unless_refused, replied};
+ghost use Rattle.law.specs.Book.{at};
 ghost use Rattle.law.specs.Messages.{send_tells, send_book, arrive_tells, arrive_book, forces as forces_at};
 ghost use Rattle.law.specs.Rounds.{request_tells, request_book, answer_tells, answer_book, answer_keeps, answered, answered_tells, noted};
 ghost use Rattle.book.specs.Logs.{message_at};
@@ -14,7 +15,7 @@ use crate::{messages, rounds, sight};
 use law::{Arrived, Noted, Round, Sent};
 use refusal::Refusal;
 use rule::ForcingRule;
-use store::Store;
+use store::{RowKey, Store};
 
 impl<S: Store, R: ForcingRule> Federation<S, R> {
     // Opens a round with this initiator, or takes an open one over where the rank is lower. Tells the initiator that holds.
@@ -29,10 +30,8 @@ impl<S: Store, R: ForcingRule> Federation<S, R> {
     // Notes one node's word. With the last one the store keeps the words, the checkpoint is committed, and a message that
     // waited for it is delivered.
     pub fn answer(&mut self, cluster: u8, rank: u8, word: u64) -> Result<Noted, Refusal>
-        requires { S.Store.sound self.old.store }
         ensures answer { result ≡ answer_tells (shown S.Store.model self.old) cluster rank word }
         ensures after { shown S.Store.model self.new ≡ answer_book (shown S.Store.model self.old) cluster rank word }
-        ensures sound { S.Store.sound self.new.store }
     {
         let round = rounds::answerable(&self.book, cluster, rank)?;
         self.note_word(cluster, rank, word, round)
@@ -48,10 +47,8 @@ impl<S: Store, R: ForcingRule> Federation<S, R> {
         requires within { cluster < vec_len self.old.book.clusters }
         requires ranked { rank < 32 }
         requires opened { is_some (at (bare self.old.book) cluster).round ≡ true }
-        requires sound { S.Store.sound self.old.store }
         ensures answer { result ≡ replied (answer_keeps (shown S.Store.model self.old) cluster (noted (shown S.Store.model self.old) round rank word)) (answered_tells (shown S.Store.model self.old) cluster rank word (Some round)) }
         ensures after { shown S.Store.model self.new ≡ unless_refused (answer_keeps (shown S.Store.model self.old) cluster (noted (shown S.Store.model self.old) round rank word)) (shown S.Store.model self.old) (answered (shown S.Store.model self.old) cluster rank word (Some round)) }
-        ensures sound { S.Store.sound self.new.store }
     {
         let round = with_word(round, usize::from(rank), word);
         let nodes = usize::from(sight::nodes(&self.book));
@@ -67,16 +64,14 @@ impl<S: Store, R: ForcingRule> Federation<S, R> {
     fn commit(&mut self, cluster: u8, round: Round) -> Result<Noted, Refusal>
         requires within { cluster < vec_len self.old.book.clusters }
         requires opened { is_some (at (bare self.old.book) cluster).round ≡ true }
-        requires sound { S.Store.sound self.old.store }
         ensures answer { result ≡ commit_tells (shown S.Store.model self.old) cluster round }
         ensures after { shown S.Store.model self.new ≡ commit_book (shown S.Store.model self.old) cluster round }
-        ensures sound { S.Store.sound self.new.store }
     {
         let nodes = usize::from(sight::nodes(&self.book));
         let words = words_of(&round.answers);
         let number = rounds::next_number(&self.book, cluster);
         self.store
-            .keep(cluster, number, &words[0..nodes])
+            .keep(RowKey { cluster, number }, &words[0..nodes])
             .map_err(Refusal::Store)?;
         rounds::commit(&mut self.book, cluster, round.waiting);
         Ok(Noted::Committed(number, round.waiting))

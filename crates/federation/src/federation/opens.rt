@@ -8,7 +8,7 @@ use book::Book;
 use refusal::Refusal;
 use rule::ForcingRule;
 use std::alloc::Global;
-use store::{MOST_WORDS, Store};
+use store::{MOST_WORDS, RowKey, Store};
 
 // Why a federation did not open: it was refused, or there was no memory.
 #[derive(Clone, Copy)]
@@ -35,8 +35,7 @@ impl<S: Store, R: ForcingRule> Federation<S, R> {
         mut store: S,
         heap: Global,
     ) -> Result<Federation<S, R>, NotOpened<S, R>>
-        requires { S.Store.sound store }
-        ensures { Opened S.Store.model S.Store.sound name clusters nodes rule store result }
+        ensures { Opened S.Store.model name clusters nodes rule store result }
     {
         if !may_open(clusters, nodes, &store) {
             let why = Closed::Refused(Refusal::BadOpen);
@@ -53,7 +52,6 @@ impl<S: Store, R: ForcingRule> Federation<S, R> {
 
 // 2 to 8 clusters of 1 to 32 nodes, and an empty store with room for checkpoint 1 of each.
 fn may_open<S: Store>(clusters: u8, nodes: u8, store: &S) -> bool
-    requires { S.Store.sound store.now }
     ensures { result ≡ opens clusters nodes (S.Store.model store.now) }
 {
     clusters >= 2
@@ -66,14 +64,12 @@ fn may_open<S: Store>(clusters: u8, nodes: u8, store: &S) -> bool
 
 // Zero words for checkpoint 1 of each cluster.
 fn keep_first<S: Store>(store: &mut S, clusters: u8, nodes: u8)
-    requires few { nodes ≤ 32 }
-    requires sound { S.Store.sound store.old }
-    ensures after { S.Store.model store.new ≡ kept_first clusters nodes (S.Store.model store.old) }
-    ensures sound { S.Store.sound store.new }
+    requires { nodes ≤ 32 }
+    ensures { S.Store.model store.new ≡ kept_first clusters nodes (S.Store.model store.old) }
 {
     let words = [0; MOST_WORDS];
     for cluster in 0..clusters {
         // an empty store with room refuses none of them
-        let _ = store.keep(cluster, 1, &words[0..usize::from(nodes)]);
+        let _ = store.keep(RowKey { cluster, number: 1 }, &words[0..usize::from(nodes)]);
     }
 }

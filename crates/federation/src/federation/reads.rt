@@ -11,12 +11,11 @@ use crate::sight;
 use arrayvec::ArrayVec;
 use refusal::Refusal;
 use rule::ForcingRule;
-use store::{MOST_WORDS, SidedStore, Store};
+use store::{MOST_WORDS, RowKey, SidedStore, Store};
 
 impl<S: Store, R: ForcingRule> Federation<S, R> {
     // The words of a kept checkpoint.
     pub fn read(&self, cluster: u8, number: u32) -> Result<ArrayVec<u64, 32>, Refusal>
-        requires { S.Store.sound self.now.store }
         ensures { told_list result ≡ read_tells (shown S.Store.model self.now) cluster number }
     {
         sight::is_kept(&self.book, cluster, number)?;
@@ -24,7 +23,6 @@ impl<S: Store, R: ForcingRule> Federation<S, R> {
     }
 
     fn words(&self, cluster: u8, number: u32) -> Result<ArrayVec<u64, 32>, Refusal>
-        requires { S.Store.sound self.now.store }
         ensures { told_list result ≡ held (lookup (S.Store.model self.now.store).table cluster number) }
     {
         // whoever asks for the count learns that every row has at most 32 words, so the buffer suffices
@@ -32,7 +30,7 @@ impl<S: Store, R: ForcingRule> Federation<S, R> {
         let mut buffer = [0; MOST_WORDS];
         let count = self
             .store
-            .read(cluster, number, &mut buffer)
+            .read(RowKey { cluster, number }, &mut buffer)
             .map_err(Refusal::Store)?;
         let mut words = ArrayVec::from(buffer);
         words.truncate(count);
@@ -43,24 +41,20 @@ impl<S: Store, R: ForcingRule> Federation<S, R> {
 impl<S: SidedStore, R: ForcingRule> Federation<S, R> {
     // The store loses one of its sides. The table stays as it is.
     pub fn lose(&mut self, side: u8) -> Result<(), Refusal>
-        requires { S.Store.sound self.old.store }
         ensures answer { result ≡ side_tells (lose_refusal (S.SidedStore.sides self.old.store) (S.SidedStore.out self.old.store) side) }
         ensures after { shown S.Store.model self.new ≡ shown S.Store.model self.old }
         ensures out { S.SidedStore.out self.new.store ≡ lose_out (S.SidedStore.sides self.old.store) (S.SidedStore.out self.old.store) side }
         ensures sides { S.SidedStore.sides self.new.store ≡ S.SidedStore.sides self.old.store }
-        ensures sound { S.Store.sound self.new.store }
     {
         self.store.lose(side).map_err(Refusal::Store)
     }
 
     // The store fills a side that is out from the rest. The table stays as it is.
     pub fn rebuild(&mut self, side: u8) -> Result<(), Refusal>
-        requires { S.Store.sound self.old.store }
         ensures answer { result ≡ side_tells (rebuild_refusal (S.SidedStore.sides self.old.store) (S.SidedStore.out self.old.store) side) }
         ensures after { shown S.Store.model self.new ≡ shown S.Store.model self.old }
         ensures out { S.SidedStore.out self.new.store ≡ rebuild_out (S.SidedStore.sides self.old.store) (S.SidedStore.out self.old.store) side }
         ensures sides { S.SidedStore.sides self.new.store ≡ S.SidedStore.sides self.old.store }
-        ensures sound { S.Store.sound self.new.store }
     {
         self.store.rebuild(side).map_err(Refusal::Store)
     }

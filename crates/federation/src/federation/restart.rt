@@ -63,11 +63,9 @@ impl<S: Store, R: ForcingRule> Federation<S, R> {
     // Every cluster called back goes back to its place. Tells every place, and the messages to send again; the ticket is spent, or
     // given back.
     pub fn resume(&mut self, ticket: Ticket<Settled>) -> Result<Resumed, Returned<Settled>>
-        requires { S.Store.sound self.old.store }
         ensures answer { resume_answer result ≡ resume_tells (shown S.Store.model self.old) (named ticket) }
         ensures ticket { GivenBack result (named ticket) }
         ensures after { shown S.Store.model self.new ≡ resume_book (shown S.Store.model self.old) (named ticket) }
-        ensures sound { S.Store.sound self.new.store }
     {
         match cuts::resume(&mut self.book, &mut self.store, ticket.numbers) {
             Ok(resumed) => {
@@ -80,10 +78,8 @@ impl<S: Store, R: ForcingRule> Federation<S, R> {
 
     // Drops the checkpoints and messages that no later fault can need.
     pub fn collect(&mut self) -> Result<Collected, Refusal>
-        requires { S.Store.sound self.old.store }
         ensures answer { collect_told result ≡ collect_tells (shown S.Store.model self.old) }
         ensures after { shown S.Store.model self.new ≡ collect_book (shown S.Store.model self.old) }
-        ensures sound { S.Store.sound self.new.store }
     {
         cuts::collect(&mut self.book, &mut self.store)
     }

@@ -2,28 +2,26 @@
 use Rattle.std.proofs.Common.{◌≡◌, ◌≤◌, List, map, length, vec_len, ap, ◌∙◌, arith}
 use Rattle.law.specs.Book.{Book as Shown}
 use Rattle.law.specs.Trials.{kept_in, from_bounds}
-use Rattle.book.specs.declared.Cluster.{Cluster}
-use Rattle.book.specs.Sound.{clusters_sound}
+use Rattle.book.specs.declared.cluster.Cluster.{Cluster}
 use Rattle.book.specs.View.{view, group, groups}
-use Rattle.book.proofs.Soundness.{is_sound_lem}
-use Rattle.federation.proofs.Cutting.{clusters_of_sound, from_fewer}
+use Rattle.federation.proofs.Cutting.{from_fewer}
 use Rattle.federation.proofs.cuts.drop_checkpoints.Goals as goal
 
 pub kept_in-before-requires : goal.kept_in-before-requires
 kept_in-before-requires g c =
     let b = c.args.book.now in
-    let few = (is_sound_lem b c.requires.sound).few in
+    let few = b.few in
     let len = b.clusters.ok.0 in
     let many = ap length c.as_slice.ensures.value in
-    record { few = omega arith; sound = ap (clusters_sound 0) c.as_slice.ensures.value ∙ clusters_of_sound b c.requires.sound }
+    omega arith
 
 pub kept_in-requires : goal.kept_in-requires
 kept_in-requires g c =
     let b = c.from_bounds.new.book in
-    let few = (is_sound_lem b c.from_bounds.ensures.sound).few in
+    let few = b.few in
     let len = b.clusters.ok.0 in
     let many = ap length c.as_slice-2.ensures.value in
-    record { few = omega arith; sound = ap (clusters_sound 0) c.as_slice-2.ensures.value ∙ clusters_of_sound b c.from_bounds.ensures.sound }
+    omega arith
 
 pub overflow_sub-result : goal.overflow_sub-result
 overflow_sub-result g c =
@@ -32,6 +30,6 @@ overflow_sub-result g c =
     let v : Shown = view b (g.S.Store.model c.args.store.now) in
     let before : c.kept_in-before.result ≡ kept_in (groups b) = c.kept_in-before.ensures ∙ ap (λ (cs : List Cluster). kept_in (map group cs)) c.as_slice.ensures.value in
     let after : c.kept_in.result ≡ kept_in (groups mid) = c.kept_in.ensures ∙ ap (λ (cs : List Cluster). kept_in (map group cs)) c.as_slice-2.ensures.value in
-    let cut : kept_in (groups mid) ≡ kept_in (from_bounds c.args.bounds (vec_len b.clusters) v).clusters = ap (λ (x : Shown). kept_in x.clusters) c.from_bounds.ensures.after in
+    let cut : kept_in (groups mid) ≡ kept_in (from_bounds c.args.bounds (vec_len b.clusters) v).clusters = ap (λ (x : Shown). kept_in x.clusters) c.from_bounds.ensures in
     let fewer : kept_in (from_bounds c.args.bounds (vec_len b.clusters) v).clusters ≤ kept_in (groups b) = from_fewer c.args.bounds (vec_len b.clusters) v in
     omega arith

@@ -15,9 +15,7 @@ returns g c =
     record {
       answer = (
         c.told_places.ensures ∙ ap (λ (n : ℕ). tells_places n ps) c.count-clusters.ensures.len,
-        c.undo_messages-ids.ensures.value ∙ ap (λ (ms : List Logged). again ps (log_back ps ms)) (back_items ps b mid m m' c.back_to.ensures.after),
+        c.undo_messages-ids.ensures.value ∙ ap (λ (ms : List Logged). again ps (log_back ps ms)) (back_items ps b mid m m' c.back_to.ensures),
       );
-      after = c.undo_messages-ids.ensures.after m' ∙ resumed-view ps b mid m m' c.back_to.ensures.after;
-      sound = c.undo_messages-ids.ensures.sound;
-      store_sound = c.back_to.ensures.store_sound;
+      after = c.undo_messages-ids.ensures.after m' ∙ resumed-view ps b mid m m' c.back_to.ensures;
     }

@@ -2,7 +2,7 @@
 use Rattle.std.proofs.Common.{◌≡◌, ℕ, ◌+◌, ◌≤◌, List, map, length, drop, vec_items, sym, ap, ◌∙◌, arith}
 use Rattle.std.proofs.lemmas.List.{at_drop_more, at_drop_all}
 use Rattle.law.specs.Trials.{kept_in}
-use Rattle.book.specs.declared.Cluster.{Cluster}
+use Rattle.book.specs.declared.cluster.Cluster.{Cluster}
 use Rattle.book.specs.View.{group}
 use Rattle.federation.proofs.Cutting.{few_kept}
 use Rattle.federation.proofs.cuts.kept_in.Goals as goal
@@ -12,7 +12,7 @@ kept_of cs = kept_in (map group cs)
 
 adds : (c : goal.After-len) → (c.len.result ≡ length (vec_items c.cluster-item.result.kept)) × (c.len.result ≤ 16)
 adds c =
-    let few = few_kept c.args.clusters.now c.loop-cluster.cluster-index c.cluster-item.result c.requires.sound c.loop-cluster-test.true c.cluster-item.is in
+    let few = few_kept c.cluster-item.result in
     let is = c.len.ensures ∙ c.cluster-item.result.kept.ok.0 in
     (is, omega arith)
 
@@ -24,7 +24,7 @@ overflow_add-sum c =
     let few = (adds c).1 in
     let most = c.loop-cluster.invariant.0 in
     let near = c.loop-cluster-test.true in
-    let all = c.requires.few in
+    let all = c.requires in
     omega arith
 
 pub loop-cluster-preserved : goal.loop-cluster-preserved

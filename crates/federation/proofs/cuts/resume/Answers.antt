@@ -1,6 +1,7 @@
 -- past both tests the restart is open, settled and the ticket's own, so nothing is refused
 use Rattle.std.proofs.Common.{◌≡◌, ℕ, List, Some, None, sym, ap, ◌∙◌, ap₂}
-use Rattle.law.specs.Book.{Book as Shown, Ticket, replied}
+use Rattle.refusal.specs.Answers.{replied}
+use Rattle.law.specs.Book.{Book as Shown, Ticket}
 use Rattle.law.specs.Restarts.{tells_places, resumed, resumed_tells, resume_refusal}
 use Rattle.book.specs.View.{view}
 use Rattle.book.proofs.Groups.{shown_len}
@@ -24,6 +25,4 @@ returns g c =
     record {
       answer = tells (resume_refusal v t) (resumed_of c.go_back.result) none ∙ ap (λ (x : List ℕ × List ℕ). replied (resume_refusal v t) x) told;
       after = c.go_back.ensures.after ∙ ap (resumed v) (sym opens) ∙ done (resume_refusal v t) v (resumed v v.restart) none;
-      sound = c.go_back.ensures.sound;
-      store_sound = c.go_back.ensures.store_sound;
     }

@@ -7,4 +7,4 @@ round_open-requires c =
     let b = c.args.book.now in
     let len = b.log.ok.0 in
     let within : c.in_ok-place.place < vec_len b.log = search rules in
-    (two_of b c.in_ok-place.place c.index.result.now c.requires within c.index.ensures).to
+    (two_of b c.in_ok-place.place c.index.result.now within c.index.ensures).to

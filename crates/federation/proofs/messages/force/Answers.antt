@@ -5,7 +5,8 @@ use Rattle.law.specs.declared.Message.{Message}
 use Rattle.law.specs.declared.Round.{Round}
 use Rattle.law.specs.declared.Arrived.{Arrived}
 use Rattle.law.specs.declared.Arrived.TheVariants.{Forced}
-use Rattle.law.specs.Book.{Cluster as Group, at, number, entry, replied, with_cluster, with_round}
+use Rattle.refusal.specs.Answers.{replied}
+use Rattle.law.specs.Book.{Cluster as Group, at, number, entry, with_cluster, with_round}
 use Rattle.law.specs.Messages.{round_refusal, new_round, open_round}
 use Rattle.book.specs.Logs.{message_at}
 use Rattle.book.specs.View.{view, bare}
@@ -23,11 +24,10 @@ returns c =
     let n-is : n ≡ number (bare b) M.to = ap (λ (x : Group). entry x.row c.from-to.result) c.cluster.ensures ∙ ap (λ (k : ℕ). number (bare b) k) to_is in
     record {
       answer = λ m. tells (round_refusal (view b m) M.to) (Forced _) none ∙ ap (λ (k : ℕ). replies m k) (add-one n ∙ ap suc n-is);
-      after = λ m. c.set_round.ensures.after m
+      after = λ m. c.set_round.ensures m
           ∙ ap (λ (r : Round). with_cluster (view b m) c.from-to.result (with_round (at (view b m) c.from-to.result) (Some r))) (c.new_round.ensures ∙ ap (λ (x : Message). new_round c.args.rank (Some x.id)) is)
           ∙ ap (λ (k : ℕ). open_round (view b m) k c.args.rank (Some M.id)) to_is
           ∙ done (round_refusal (view b m) M.to) (view b m) _ none;
-      sound = c.set_round.ensures.sound;
     }
   where
     replies : Model → ℕ → Result Arrived Refusal

@@ -3,10 +3,11 @@ use Rattle.std.proofs.lemmas.Bool.{lt-ltb}
 use Rattle.refusal.specs.declared.Refusal.{Refusal}
 use Rattle.store.specs.Table.{Model}
 use Rattle.law.specs.declared.Sent.{Sent}
-use Rattle.law.specs.Book.{Cluster as Group, number, entry, replied}
+use Rattle.refusal.specs.Answers.{replied}
+use Rattle.law.specs.Book.{Cluster as Group, number, entry}
 use Rattle.law.specs.Messages.{send_refusal, sent}
 use Rattle.book.specs.View.{view, bare}
-use Rattle.book.proofs.Soundness.{both_is}
+use Rattle.book.proofs.Placing.{both_is}
 use Rattle.federation.proofs.Allowed.{send_allowed, within, few-shown, done, tells}
 use Rattle.federation.proofs.messages.send.Goals as goal
 
@@ -21,14 +22,14 @@ pub offset_bounds-cluster-i : goal.offset_bounds-cluster-i
 offset_bounds-cluster-i c =
     let b = c.args.book.now in
     let ok = send_allowed (bare b) c.args.from c.args.to (c.in_ok-may_send.ensures.accepts) in
-    let near = few-shown b c.args.from c.requires (within b c.args.from ok.from) in
+    let near = few-shown b c.args.from (within b c.args.from ok.from) in
     omega arith
 
 pub bounds-cluster-i : goal.bounds-cluster-i
 bounds-cluster-i c =
     let b = c.args.book.now in
     let ok = send_allowed (bare b) c.args.from c.args.to (c.in_ok-may_send.ensures.accepts) in
-    let near = few-shown b c.args.from c.requires (within b c.args.from ok.from) in
+    let near = few-shown b c.args.from (within b c.args.from ok.from) in
     omega arith
 
 pub log_message-requires : goal.log_message-requires
@@ -41,7 +42,6 @@ log_message-requires c =
       addressed = both_is _ _ (both_is _ _ (lt-ltb _ _ (within b c.args.from ok.from)) (lt-ltb _ _ (within b c.args.to ok.to))) (ap not ok.apart);
       free = omega arith;
       numbered = ok.numbered;
-      sound = c.requires;
     }
 
 pub returns : goal.returns
@@ -54,8 +54,7 @@ returns c =
     ap (λ (x : Group). entry x.row c.from-i.result) c.cluster.ensures ∙ ap (λ (k : ℕ). number (bare b) k) c.from-i.ensures in
     record {
       answer = λ m. tells (send_refusal (view b m) i j) (record { id = b.next_id; number = entry c.cluster.result.now.row c.from-i.result }) none ∙ ap (λ (n : ℕ). replies m n) n-is;
-      after = λ m. c.log_message.ensures.after m ∙ done (send_refusal (view b m) i j) (view b m) (sent (view b m) i j c.args.word) none;
-      sound = c.log_message.ensures.sound;
+      after = λ m. c.log_message.ensures m ∙ done (send_refusal (view b m) i j) (view b m) (sent (view b m) i j c.args.word) none;
     }
   where
     replies : Model → ℕ → Result Sent Refusal

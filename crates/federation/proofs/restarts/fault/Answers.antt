@@ -3,7 +3,7 @@ use Rattle.std.proofs.Common.{[], map, sym, ap, arith}
 use Rattle.law.specs.Book.{Book as Shown}
 use Rattle.book.specs.View.{view, bare, group}
 use Rattle.federation.proofs.Allowed.{within, few-shown}
-use Rattle.federation.proofs.Restarting.{fault_allowed, fault_says, fault_leaves, slice_len, slice_few, sound-restarted}
+use Rattle.federation.proofs.Restarting.{fault_allowed, fault_says, fault_leaves, slice_len, slice_few}
 use Rattle.federation.proofs.restarts.fault.Goals as goal
 
 pub begin-restart-requires : goal.begin-restart-requires
@@ -11,13 +11,13 @@ begin-restart-requires c =
     let b = c.args.book.now in
     let ok = fault_allowed (bare b) c.args.cluster (sym c.in_ok-may_fault.ensures.accepts) in
     let near = within b c.args.cluster ok.0 in
-    let len = slice_len b _ c.requires c.as_slice.ensures.value in
-    record { within = omega arith; few = slice_few b _ c.requires c.as_slice.ensures.value }
+    let len = slice_len b _ c.as_slice.ensures.value in
+    record { within = omega arith; few = slice_few b _ c.as_slice.ensures.value }
 
 pub overflow_add-book : goal.overflow_add-book
 overflow_add-book c =
     let ok = fault_allowed (bare c.args.book.now) c.args.cluster (sym c.in_ok-may_fault.ensures.accepts) in
-    let same = ap (λ (x : Shown). x.restarts) (c.drop_rounds.ensures.after (record { table = []; capacity = 0; full = 0 })) in
+    let same = ap (λ (x : Shown). x.restarts) (c.drop_rounds.ensures (record { table = []; capacity = 0; full = 0 })) in
     let few = ok.1 in
     omega arith
 
@@ -25,7 +25,7 @@ pub bounds-restart-i : goal.bounds-restart-i
 bounds-restart-i c =
     let b = c.args.book.now in
     let ok = fault_allowed (bare b) c.args.cluster (sym c.in_ok-may_fault.ensures.accepts) in
-    let near = few-shown b c.args.cluster c.requires (within b c.args.cluster ok.0) in
+    let near = few-shown b c.args.cluster (within b c.args.cluster ok.0) in
     omega arith
 
 pub returns : goal.returns
@@ -33,10 +33,9 @@ returns c =
     let b = c.args.book.now in
     let none = c.in_ok-may_fault.ensures.accepts in
     let ok = fault_allowed (bare b) c.args.cluster (sym c.in_ok-may_fault.ensures.accepts) in
-    let near = few-shown b c.args.cluster c.requires (within b c.args.cluster ok.0) in
+    let near = few-shown b c.args.cluster (within b c.args.cluster ok.0) in
     let shows = ap (map group) c.as_slice.ensures.value in
     record {
       answer = λ m. fault_says (view b m) c.args.cluster _ _ _ none c.from-i.ensures shows c.begin-restart.ensures near;
-      after = λ m. fault_leaves (view b m) c.args.cluster _ _ _ none c.from-i.ensures shows c.begin-restart.ensures (view c.drop_rounds.new.self m) (c.drop_rounds.ensures.after m);
-      sound = sound-restarted c.drop_rounds.new.self _ _ c.drop_rounds.ensures.sound;
+      after = λ m. fault_leaves (view b m) c.args.cluster _ _ _ none c.from-i.ensures shows c.begin-restart.ensures (view c.drop_rounds.new.self m) (c.drop_rounds.ensures m);
     }

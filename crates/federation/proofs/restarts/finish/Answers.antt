@@ -1,15 +1,14 @@
--- the clusters of a sound book are few and sound, so that the restart can be drained
+-- the clusters of a book are few, so that the restart can be drained
 use Rattle.std.proofs.Common.{map, ap}
 use Rattle.law.specs.Restarts.{finish_refusal}
 use Rattle.book.specs.View.{view, group}
 use Rattle.federation.proofs.Allowed.{tells}
-use Rattle.federation.proofs.Restarting.{finish_leaves, slice_sound, slice_few, sound-restarted}
+use Rattle.federation.proofs.Restarting.{finish_leaves, slice_few}
 use Rattle.federation.proofs.restarts.finish.Goals as goal
 
 pub drain-requires : goal.drain-requires
 drain-requires c =
-    let b = c.args.book.now in
-    record { few = slice_few b _ c.requires c.as_slice.ensures.value; sound = slice_sound b _ c.requires c.as_slice.ensures.value }
+    slice_few c.args.book.now _ c.as_slice.ensures.value
 
 pub returns : goal.returns
 returns c =
@@ -18,5 +17,4 @@ returns c =
     record {
       answer = λ m. tells (finish_refusal (view b m) _) tt none;
       after = λ m. finish_leaves (view b m) _ _ _ _ none c.in_ok-restart.ensures.opened (ap (map group) c.as_slice.ensures.value) c.drain.ensures;
-      sound = sound-restarted b _ _ c.requires;
     }

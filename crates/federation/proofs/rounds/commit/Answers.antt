@@ -12,19 +12,13 @@ pub returns-in-Some : goal.returns-in-Some
 returns-in-Some c =
     let b = c.args.book.now in
     let i = c.args.cluster in
-    record {
-      after = λ m. c.deliver_logged.ensures.after m
-          ∙ ap (λ (x : Shown). deliver_logged x (logged x.log c.in-Some.id)) (kept_at (view b m) _ _ i c.from.ensures (c.commit.ensures.after m))
-          ∙ ap (λ (o : Option ℕ). deliver_waiting (with_cluster (view b m) i (saved i (at (view b m) i))) o) (sym c.in-Some.is);
-      sound = c.deliver_logged.ensures.sound;
-    }
+    λ m. c.deliver_logged.ensures m
+    ∙ ap (λ (x : Shown). deliver_logged x (logged x.log c.in-Some.id)) (kept_at (view b m) _ _ i c.from.ensures (c.commit.ensures m))
+    ∙ ap (λ (o : Option ℕ). deliver_waiting (with_cluster (view b m) i (saved i (at (view b m) i))) o) (sym c.in-Some.is)
 
 pub returns-in_default : goal.returns-in_default
 returns-in_default c =
     let b = c.args.book.now in
     let i = c.args.cluster in
-    record {
-      after = λ m. kept_at (view b m) _ _ i c.from.ensures (c.commit.ensures.after m)
-          ∙ ap (λ (o : Option ℕ). deliver_waiting (with_cluster (view b m) i (saved i (at (view b m) i))) o) (sym c.in_default.is);
-      sound = c.commit.ensures.sound;
-    }
+    λ m. kept_at (view b m) _ _ i c.from.ensures (c.commit.ensures m)
+    ∙ ap (λ (o : Option ℕ). deliver_waiting (with_cluster (view b m) i (saved i (at (view b m) i))) o) (sym c.in_default.is)

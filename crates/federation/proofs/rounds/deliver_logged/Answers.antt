@@ -8,7 +8,4 @@ use Rattle.federation.proofs.rounds.deliver_logged.Goals as goal
 pub returns-in-Some : goal.returns-in-Some
 returns-in-Some c =
     let b = c.args.book.now in
-    record {
-      after = λ m. c.deliver.ensures.after m ∙ ap (λ (o : Option Logged). deliver_logged (view b m) o) (sym (c.in-Some.ensures.1 no_logged));
-      sound = c.deliver.ensures.sound;
-    }
+    λ m. c.deliver.ensures m ∙ ap (λ (o : Option Logged). deliver_logged (view b m) o) (sym (c.in-Some.ensures.1 no_logged))

@@ -1,6 +1,6 @@
 use Rattle.std.proofs.Common.{◌≡◌, ℕ, ◌<◌, true, length, Some, vec_len, sym, ap, ◌∙◌, subst}
 use Rattle.law.specs.Book.{at, number, with_cluster, with_round}
-use Rattle.book.specs.Sound.{can_end}
+use Rattle.book.specs.Rules.{can_end}
 use Rattle.book.specs.View.{view, bare}
 use Rattle.federation.proofs.Allowed.{open_ends}
 use Rattle.federation.proofs.rounds.note.Goals as goal
@@ -10,13 +10,9 @@ set_round-requires c =
     let b = c.args.book.now in
     record {
       within = subst (λ (i : ℕ). i < vec_len b.clusters) (sym c.from.ensures) c.requires.within;
-      sound = c.requires.sound;
-      ends = subst (λ (i : ℕ). can_end true (length (at (bare b) i).kept) (number (bare b) i) ≡ true) (sym c.from.ensures) (open_ends b c.args.cluster c.requires.sound c.requires.within c.requires.opened);
+      ends = subst (λ (i : ℕ). can_end true (length (at (bare b) i).kept) (number (bare b) i) ≡ true) (sym c.from.ensures) (open_ends b c.args.cluster c.requires.within c.requires.opened);
     }
 
 pub returns : goal.returns
 returns c =
-    record {
-      after = λ m. c.set_round.ensures.after m ∙ ap (λ (i : ℕ). with_cluster (view c.args.book.now m) i (with_round (at (view c.args.book.now m) i) (Some c.args.round))) c.from.ensures;
-      sound = c.set_round.ensures.sound;
-    }
+    λ m. c.set_round.ensures m ∙ ap (λ (i : ℕ). with_cluster (view c.args.book.now m) i (with_round (at (view c.args.book.now m) i) (Some c.args.round))) c.from.ensures

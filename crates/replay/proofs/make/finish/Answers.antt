@@ -7,7 +7,4 @@ use Rattle.replay.proofs.make.finish.Goals as goal
 
 pub returns-in_default : goal.returns-in_default
 returns-in_default g c =
-    record {
-      made = subst (λ (e : Exchange). Stepped g.R.ForcingRule.says (shown g.S.Store.model c.args.federation.now) (shown g.S.Store.model c.finish_on-made.new.federation) Finish e) (sym c.keeping.ensures) c.finish_on-made.ensures.made;
-      sound = c.finish_on-made.ensures.sound;
-    }
+    subst (λ (e : Exchange). Stepped g.R.ForcingRule.says (shown g.S.Store.model c.args.federation.now) (shown g.S.Store.model c.finish_on-made.new.federation) Finish e) (sym c.keeping.ensures) c.finish_on-made.ensures

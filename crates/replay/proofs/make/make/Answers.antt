@@ -3,8 +3,8 @@ use Rattle.std.proofs.Common.{rules}
 use Rattle.replay.proofs.make.make.Goals as goal
 use Rattle.replay.proofs.make.make.Goals.{in-Request, in-Answer, in-Send, in-Arrive, in-Trial, in-Collect, in-Read, in-Lose, in-Rebuild}
 
-pub returns-clause-made : goal.returns-clause-made
-returns-clause-made g c =
+pub returns : goal.returns
+returns g c =
     elim c.match-call.branch [
       | in-Request w ↦ rw (w.federation-is, w.exchange-is, w.in-Request.is) (search rules)
       | in-Answer w ↦ rw (w.federation-is, w.exchange-is, w.in-Answer.is) (search rules)

@@ -7,7 +7,4 @@ use Rattle.replay.proofs.make.resume.Goals as goal
 
 pub returns-in_default : goal.returns-in_default
 returns-in_default g c =
-    record {
-      made = subst (λ (e : Exchange). Stepped g.R.ForcingRule.says (shown g.S.Store.model c.args.federation.now) (shown g.S.Store.model c.resume_on-made.new.federation) Resume e) (sym c.keeping.ensures) c.resume_on-made.ensures.made;
-      sound = c.resume_on-made.ensures.sound;
-    }
+    subst (λ (e : Exchange). Stepped g.R.ForcingRule.says (shown g.S.Store.model c.args.federation.now) (shown g.S.Store.model c.resume_on-made.new.federation) Resume e) (sym c.keeping.ensures) c.resume_on-made.ensures

@@ -17,14 +17,13 @@ loop-call-preserved g c =
     let i = c.loop-call.call-index in
     let es = vec_items c.loop-call.exchanges in
     let e = c.make-exchange.result.exchange in
-    let more = run_more says b was now (take i calls) es _ e c.loop-call.invariant.0 c.make-exchange.ensures.made in
-    let inv-len = c.loop-call.invariant.2 in
-    let inv-cap = c.loop-call.invariant.3 in
+    let more = run_more says b was now (take i calls) es _ e c.loop-call.invariant.0 c.make-exchange.ensures in
+    let inv-len = c.loop-call.invariant.1 in
+    let inv-cap = c.loop-call.invariant.2 in
     let len = c.push_reserved.ensures.len in
     let cap = c.push_reserved.ensures.capacity in (
       subst (λ (l : List Exchange). Run says b (take (i + 1) calls) l now) (sym c.push_reserved.ensures.items)
           (subst (λ (l : List Call). Run says b l (es ++ (e ∷ [])) now) (sym (take_more calls i _ c.loop-call-test.true)) more),
-      c.make-exchange.ensures.sound,
       omega arith,
       omega arith,
     )
@@ -34,7 +33,4 @@ returns g c =
     let says = g.R.ForcingRule.says in
     let b = shown g.S.Store.model c.args.federation.now in
     let now = shown g.S.Store.model c.loop-call.federation in
-    record {
-      run = subst (λ (l : List Call). Run says b l (vec_items c.loop-call.exchanges) now) (take_all c.loop-call.call-index c.args.calls.now c.loop-call-test.false) c.loop-call.invariant.0;
-      sound = c.loop-call.invariant.1;
-    }
+    subst (λ (l : List Call). Run says b l (vec_items c.loop-call.exchanges) now) (take_all c.loop-call.call-index c.args.calls.now c.loop-call-test.false) c.loop-call.invariant.0

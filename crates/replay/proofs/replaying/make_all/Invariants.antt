@@ -6,6 +6,5 @@ use Rattle.replay.proofs.replaying.make_all.Given as goal
 abbrev pub invariant-loop-call : goal.invariant-loop-call
 invariant-loop-call g l =
     Run g.R.ForcingRule.says (shown g.S.Store.model l.initial.federation) (take l.call-index l.calls) (vec_items l.exchanges) (shown g.S.Store.model l.federation)
-    × g.S.Store.sound l.federation.store
     × (vec_len l.exchanges ≡ l.call-index)
     × (length l.calls ≤ vec_capacity l.exchanges)

@@ -11,8 +11,6 @@ returns g c =
     let m = g.S.Store.model c.args.store in
     let opened = c.in-Ok.ensures in
     let es = vec_items c.make_all-held.new.exchanges in
-    let now = shown g.S.Store.model c.make_all-held.new.federation in (
-      replaying says c.args.name c.args.clusters c.args.nodes m c.args.calls.now es now g.met.R.ForcingRule.news opened.0
-          (subst (λ (b : Book). Run says b c.args.calls.now es now) opened.1 c.make_all-held.ensures.run),
-      c.make_all-held.ensures.sound,
-    )
+    let now = shown g.S.Store.model c.make_all-held.new.federation in
+    replaying says c.args.name c.args.clusters c.args.nodes m c.args.calls.now es now g.met.R.ForcingRule.news opened.0
+    (subst (λ (b : Book). Run says b c.args.calls.now es now) opened.1 c.make_all-held.ensures)

@@ -28,6 +28,6 @@ returns-clause-after g c =
     ap₂ (λ (k : ℕ) (ws : List ℕ). from_store (keep_refusal b.store i k ws)) (sym n-is) (sym ws-is) ∙ kept_none _ (kept ∙ c.keep.ensures.answer) in
     let model_is : g.S.Store.model c.keep.new.self ≡ keep_model b.store i (suc (number b i)) (given b r) =
     c.keep.ensures.after ∙ ap₂ (λ (k : ℕ) (ws : List ℕ). keep_model b.store i k ws) n-is ws-is in
-    c.commit.ensures.after (g.S.Store.model c.keep.new.self)
+    c.commit.ensures (g.S.Store.model c.keep.new.self)
     ∙ ap (λ (m : Model). deliver_waiting (with_cluster (view f.book m) i (saved i (at (view f.book m) i))) r.waiting) model_is
     ∙ done (keeping b i r) b (committed b i (given b r) r.waiting) none

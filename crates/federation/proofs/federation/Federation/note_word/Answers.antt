@@ -5,7 +5,8 @@ use Rattle.refusal.specs.declared.Refusal.{Refusal}
 use Rattle.law.specs.declared.Noted.{Noted}
 use Rattle.law.specs.declared.Noted.TheVariants.{Missing}
 use Rattle.law.specs.declared.Round.{Round}
-use Rattle.law.specs.Book.{Book as Shown, at, with_cluster, with_round, unless_refused, replied}
+use Rattle.refusal.specs.Answers.{unless_refused, replied}
+use Rattle.law.specs.Book.{Book as Shown, at, with_cluster, with_round}
 use Rattle.law.specs.Rounds.{missing as lacking, noted, notes, answer_keeps, answered, answered_tells}
 use Rattle.federation.specs.Shown.{shown}
 use Rattle.federation.proofs.federation.Federation.note_word.Goals as goal
@@ -28,10 +29,9 @@ returns g c =
     let leaving : answered b i c.args.rank c.args.word (Some r) ≡ notes b i r c.args.rank c.args.word = cond-false (eqb (lacking ws) 0) _ _ not_last in
     record {
       answer = ap (λ (k : ℕ). says k) left_is ∙ sym (ap₂ (λ (o : Option Refusal) (v : Noted). replied o v) verdict telling);
-      after = c.note.ensures.after b.store
+      after = c.note.ensures b.store
           ∙ ap (λ (x : Round). with_cluster b i (with_round (at b i) (Some x))) round_is
           ∙ sym (ap₂ (λ (o : Option Refusal) (k : Shown). unless_refused o b k) verdict leaving);
-      sound = c.requires.sound;
     }
   where
     says : ℕ → Result Noted Refusal

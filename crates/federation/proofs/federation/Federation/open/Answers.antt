@@ -12,8 +12,7 @@ returns g c =
     let n = c.args.clusters in
     let nodes = c.args.nodes in (
       cond-true (opens n nodes m) None (Some refuses.BadOpen) (sym c.if-not-may_open.ensures),
-      c.in-Ok.ensures.0 (g.S.Store.model c.keep_first.new.store)
-          ∙ ap₂ (λ (k : ℕ) (x : Model). new_book c.args.name k nodes x) c.from.ensures c.keep_first.ensures.after,
+      c.in-Ok.ensures (g.S.Store.model c.keep_first.new.store)
+          ∙ ap₂ (λ (k : ℕ) (x : Model). new_book c.args.name k nodes x) c.from.ensures c.keep_first.ensures,
       refl,
-      c.keep_first.ensures.sound,
     )

@@ -1,6 +1,6 @@
 use Rattle.std.proofs.Common.{◌≡◌, Err, sym, ap, ◌∙◌, rules}
 use Rattle.store.specs.Table.{lookup, read_refused, read_count}
-use Rattle.law.specs.Book.{replied}
+use Rattle.refusal.specs.Answers.{replied}
 use Rattle.law.specs.Rounds.{from_store}
 use Rattle.federation.specs.Told.{told_list}
 use Rattle.federation.proofs.Wording.{sized_at, read_refused_lem}

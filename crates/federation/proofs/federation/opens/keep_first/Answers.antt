@@ -10,10 +10,8 @@ loop-cluster-preserved g c =
     let m = g.S.Store.model c.args.store.now in
     let k = c.loop-cluster.cluster in
     let nodes_is : c.from.result - 0 ≡ nodes = let e = c.from.ensures in omega arith in
-    let few = c.requires.few in
-    let zeros : take (c.from.result - 0) (replicate 32 0) ≡ replicate nodes 0 = ap (λ (z : ℕ). take z (replicate 32 0)) nodes_is ∙ take-replicate nodes 32 0 few in (
-      c.keep.ensures.sound,
-      c.keep.ensures.after
-          ∙ ap₂ (λ (x : Model) (ws : List ℕ). keep_model x k 1 ws) c.loop-cluster.invariant.1 zeros
-          ∙ ap (λ (z : ℕ). kept_first z nodes m) (sym (add-one k)),
-    )
+    let few = c.requires in
+    let zeros : take (c.from.result - 0) (replicate 32 0) ≡ replicate nodes 0 = ap (λ (z : ℕ). take z (replicate 32 0)) nodes_is ∙ take-replicate nodes 32 0 few in
+    c.keep.ensures.after
+    ∙ ap₂ (λ (x : Model) (ws : List ℕ). keep_model x k 1 ws) c.loop-cluster.invariant zeros
+    ∙ ap (λ (z : ℕ). kept_first z nodes m) (sym (add-one k))
