@@ -1,23 +1,21 @@
 -- Cutting the clusters leaves the log as it was; a log that has lost messages or receipts leaves the book sound; and nothing kept
 -- grows in number.
-use Rattle.std.proofs.Common.{◌≡◌, ℕ, zero, suc, ◌-◌, ◌≤◌, true, ltb, leb, List, [], ◌∷◌, length, get_or, take, set, Some, None, vec_items, vec_len, vec_capacity, sym, ap, ◌∙◌, ap₂, arith}
+use Rattle.std.proofs.Common.{◌≡◌, ℕ, zero, suc, ◌+◌, ◌-◌, ◌*◌, ◌≤◌, true, ltb, leb, List, [], ◌∷◌, map, length, sum_by, get_or, take, set, None, vec_items, vec_len, vec_capacity, sym, refl, ap, ◌∙◌, ap₂, arith}
 use Rattle.std.specs.Global.{Vec}
-use Rattle.std.proofs.lemmas.Bool.{cond-true}
+use Rattle.std.proofs.lemmas.List.Sums.{sum_by-cons}
 use Rattle.store.specs.Table.{Model}
 use Rattle.std.specs.Ordering.{nat_cmp}
 use Rattle.ordered.specs.Seek.{ascending}
 use Rattle.law.specs.declared.Logged.{Logged}
-use Rattle.law.specs.declared.Restart.{Restart}
-use Rattle.law.specs.Book.{Book as Shown, Ticket, Cluster as Group, at, count, nobody, with_log, with_restart, most_messages}
-use Rattle.law.specs.Restarts.{back, back_to, log_back, resumed_to, holds, resume_at, resume_refusal}
+use Rattle.law.specs.Book.{Book as Shown, Cluster as Group, at, count, nobody, with_log, with_restart, most_messages}
+use Rattle.law.specs.Restarts.{back, back_to, log_back, resumed_to}
 use Rattle.law.specs.Trials.{from, from_bounds, log_from, bounds, kept_in, collected, Collected as Spent}
 use Rattle.law.proofs.Prune.{prune-log, length_kept}
 use Rattle.book.specs.declared.cluster.Cluster.{Cluster}
 use Rattle.book.specs.declared.book.Book.{Book}
 use Rattle.book.specs.Rules.{id_of, ids_below, addressed}
-use Rattle.book.specs.View.{view, groups}
+use Rattle.book.specs.View.{group, view, groups}
 use Rattle.book.proofs.Groups.{shown_len}
-use Rattle.book.proofs.Placing.{both_is}
 use Rattle.federation.specs.Collecting.{spent}
 use Rattle.pruning.proofs.LogStays.{log-back-ascends, log-back-below, log-back-addressed, log-back-short, log_from_ascends, log_from_below, log_from_addressed, log_from_short}
 
@@ -93,11 +91,6 @@ collected-told bs n b mid out m m' least all cut logged =
     ∙ ap (λ (gs : List Group). spent_of (take (count (view b m)) (bounds (view b m))) (kept_in (groups b) - kept_in gs) (length (vec_items mid.log) - length (vec_items out.log))) kept
     ∙ ap₂ (λ (x y : List Logged). spent_of (take (count (view b m)) (bounds (view b m))) (kept_in (groups b) - kept_in (collected (view b m)).clusters) (length x - length y)) was left
 
--- a resume that is not refused
-pub resume_allowed : (v : Shown) (t : Ticket) (r : Restart) → v.restart ≡ Some r → holds v t ≡ true → r.settled ≡ true → resume_refusal v t ≡ None
-resume_allowed v t r opened own settled =
-    ap (resume_at v t) opened ∙ cond-true _ _ _ (both_is (holds v t) r.settled own settled)
-
 -- a cluster with fewer checkpoints leaves no more of them in all
 kept_set : (cs : List Group) (k : ℕ) (c : Group) → length c.kept ≤ length (get_or cs k nobody).kept → kept_in (set cs k c) ≤ kept_in cs
 kept_set [] k c h = omega arith
@@ -112,6 +105,15 @@ from_fewer bs (suc k) b =
     let rest = from_fewer bs k b in
     omega arith
 
--- every cluster keeps few enough checkpoints
-pub few_kept : (c : Cluster) → length (vec_items c.kept) ≤ 16
-few_kept c = let few = c.few in let len = c.kept.ok.0 in omega arith
+-- how many checkpoints the clusters keep, and that they are few
+pub kept_sum : (cs : List Cluster) → sum_by (λ c. vec_len c.kept) cs ≡ kept_in (map group cs)
+kept_sum [] = refl
+kept_sum (c ∷ cs) = sum_by-cons (λ x. vec_len x.kept) c cs ∙ ap₂ (λ (m n : ℕ). m + n) c.kept.ok.0 (kept_sum cs)
+
+pub kept_few : (cs : List Cluster) → sum_by (λ c. vec_len c.kept) cs ≤ 16 * length cs
+kept_few [] = omega arith
+kept_few (c ∷ cs) =
+    let one = c.few in
+    let rest = kept_few cs in
+    let all = sum_by-cons (λ x. vec_len x.kept) c cs in
+    omega arith

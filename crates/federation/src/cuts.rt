@@ -61,11 +61,8 @@ fn kept_in(clusters: &[Cluster]) -> u8
     requires { length clusters.now ≤ 8 }
     ensures { result ≡ kept_in (map group clusters.now) }
 {
-    let mut sum = 0;
-    for cluster in clusters {
-        sum += cluster.kept.len() as u8;
-    }
-    sum
+    let kept: usize = clusters.iter().map(|cluster| cluster.kept.len()).sum();
+    kept as u8
 }
 
 // Below these numbers no later fault can need a checkpoint. The restart is as it was.

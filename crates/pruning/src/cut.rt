@@ -4,7 +4,7 @@ ghost use Rattle.law.specs.Book.{Cluster as Group};
 ghost use Rattle.law.specs.Restarts.{back, discard, prune as pruned};
 ghost use Rattle.law.specs.Trials.{from};
 ghost use Rattle.book.specs.View.{group, view};
-ghost use Rattle.pruning.specs.Cutting.{prune_at, row_back};
+ghost use Rattle.pruning.specs.Cutting.{row_back};
 
 use crate::{Back, Collect};
 use book::{Book, Cluster, STAYS, checkpoint_at};
@@ -104,12 +104,11 @@ impl Cut for Collect {
 }
 
 // One cluster cut.
-fn prune_cluster<C: Cut, S: Store>(book: &mut Book, store: &mut S, i: usize, cut: &C)
-    requires { i < vec_len book.old.clusters }
-    ensures after { view book.new (S.Store.model store.new) ≡ prune_at (C.Cut.change cut.now) (C.Cut.gone cut.now) i (view book.old (S.Store.model store.old)) }
-    ensures len { vec_len book.new.clusters ≡ vec_len book.old.clusters }
+fn prune_cluster<C: Cut, S: Store>(cluster: &mut Cluster, store: &mut S, cut: &C)
+    ensures after { group cluster.new ≡ C.Cut.change cut.now cluster.old.own (group cluster.old) }
+    ensures own { cluster.new.own ≡ cluster.old.own }
+    ensures store { S.Store.model store.new ≡ discard cluster.old.own (C.Cut.gone cut.now cluster.old.own) cluster.old.kept.items (S.Store.model store.old) }
 {
-    let cluster = &mut book.clusters[i];
     discard_rows(store, cluster, cut);
     cut.change(cluster);
 }
@@ -118,7 +117,7 @@ fn prune_cluster<C: Cut, S: Store>(book: &mut Book, store: &mut S, i: usize, cut
 pub fn prune<C: Cut, S: Store>(book: &mut Book, store: &mut S, cut: &C)
     ensures { view book.new (S.Store.model store.new) ≡ pruned (C.Cut.change cut.now) (C.Cut.gone cut.now) (vec_len book.old.clusters) (view book.old (S.Store.model store.old)) }
 {
-    for i in 0..book.clusters.len() {
-        prune_cluster(book, store, i, cut);
+    for cluster in book.clusters.iter_mut() {
+        prune_cluster(cluster, store, cut);
     }
 }

@@ -1,23 +1,47 @@
 -- one cluster after another
-use Rattle.std.proofs.Common.{◌≡◌, ℕ, vec_len, sym, ap, ◌∙◌, add-one, arith}
-use Rattle.law.specs.Restarts.{prune}
-use Rattle.book.specs.View.{view}
-use Rattle.pruning.specs.Cutting.{prune_at}
+use Rattle.std.proofs.Common.{◌≡◌, ℕ, List, get_or, vec_items, sym, ap, ◌∙◌, add-one, arith}
+use Rattle.std.proofs.lemmas.List.{with_items_is}
+use Rattle.law.specs.Restarts.{discard, prune}
+use Rattle.book.specs.declared.cluster.Cluster.{Cluster}
+use Rattle.book.specs.Placed.{placed}
+use Rattle.book.specs.View.{view, group}
+use Rattle.book.proofs.Placing.{own_at, placed_set}
+use Rattle.pruning.proofs.Cutting.{left_with, pruned_more}
 use Rattle.pruning.proofs.cut.prune.Goals as goal
 
-pub loop-i-preserved : goal.loop-i-preserved
-loop-i-preserved g c =
-    let change = g.C.Cut.change c.args.cut.now in
-    let gone = g.C.Cut.gone c.args.cut.now in
-    let first = view c.args.book.now (g.S.Store.model c.args.store.now) in
-    let inv = c.loop-i.invariant in
-    let done = c.prune_cluster.ensures in (
-      done.after ∙ ap (prune_at change gone c.loop-i.i) inv.0 ∙ ap (λ (z : ℕ). prune change gone z first) (sym (add-one c.loop-i.i)),
-      done.len ∙ inv.1,
+pub loop-cluster-init : goal.loop-cluster-init
+loop-cluster-init g c =
+    let b = c.args.book.now in
+    let m = g.S.Store.model c.args.store.now in
+    let items = c.deref_mut-cluster-items.ensures.value in (
+      ap (λ (cs : List Cluster). left_with (g.C.Cut.change c.args.cut.now) (g.C.Cut.gone c.args.cut.now) b m cs m) items,
+      ap (placed 0) items ∙ b.placed,
     )
 
-pub returns : goal.returns
-returns g c =
-    let first = view c.args.book.now (g.S.Store.model c.args.store.now) in
-    let all : c.loop-i.i ≡ vec_len c.args.book.now.clusters = omega arith in
-    c.loop-i.invariant.0 ∙ ap (λ (z : ℕ). prune (g.C.Cut.change c.args.cut.now) (g.C.Cut.gone c.args.cut.now) z first) all
+pub loop-cluster-preserved : goal.loop-cluster-preserved
+loop-cluster-preserved g c =
+    let change = g.C.Cut.change c.args.cut.now in
+    let gone = g.C.Cut.gone c.args.cut.now in
+    let m = g.S.Store.model c.args.store.now in
+    let cs = c.loop-cluster.cluster-items in
+    let i = c.loop-cluster.cluster-index in
+    let was = get_or cs i c.cluster-item.result in
+    let left = g.S.Store.model c.loop-cluster.store in
+    let cut = c.prune_cluster.ensures in
+    let read = ap (get_or cs i) c.cluster-item.is in
+    let own : was.own ≡ i = own_at 0 cs i was c.loop-cluster.invariant.1 (omega arith) read ∙ omega arith in (
+      pruned_more change gone c.args.book.now m cs left (g.S.Store.model c.prune_cluster.new.store) i was c.prune_cluster.new.cluster
+          (omega arith) read c.loop-cluster.invariant.0
+          (cut.after ∙ ap (λ (k : ℕ). change k (group was)) own)
+          (cut.store ∙ ap (λ (k : ℕ). discard k (gone k) (vec_items was.kept) left) own)
+          ∙ ap (λ (k : ℕ). prune change gone k (view c.args.book.now m)) (sym (add-one i)),
+      placed_set 0 cs i was c.prune_cluster.new.cluster c.loop-cluster.invariant.1 (omega arith) read cut.own,
+    )
+
+pub invariant_of-book-clause-placed : goal.invariant_of-book-clause-placed
+invariant_of-book-clause-placed g c =
+    let b = c.args.book.now in
+    let len = b.clusters.ok.0 in
+    let long = c.loop-cluster.auto.cluster-items in
+    let same = c.deref_mut-cluster-items.ensures.len in
+    ap (placed 0) (with_items_is b.clusters c.loop-cluster.cluster-items (omega arith)) ∙ c.loop-cluster.invariant.1
