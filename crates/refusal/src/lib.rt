@@ -3,8 +3,10 @@
 #![tactic(auto)]
 
 ghost use Rattle.std.specs.Prelude.{◌≡◌, Some};
+ghost use Rattle.refusal.specs.declared.Refusal.TheVariants.{Store as from_store};
 ghost use Rattle.refusal.specs.Refusals.{number_of, layer_of, layer_letter, letter_of, side_of, store_side, words_of, store_words};
 
+use std::error::Error;
 use std::fmt;
 
 // Where a refusal comes from: the list of commands, the book of the federation, or the store below it.
@@ -207,3 +209,16 @@ impl fmt::Display for Refusal {
         f.write_str(Refusal::words(*self))
     }
 }
+
+// What a store refuses, a call above it refuses as the store's.
+impl From<StoreRefusal> for Refusal {
+    ghost from_gives = { λ why r. r ≡ from_store why };
+
+    fn from(refused: StoreRefusal) -> Refusal {
+        Refusal::Store(refused)
+    }
+}
+
+impl Error for StoreRefusal {}
+
+impl Error for Refusal {}
