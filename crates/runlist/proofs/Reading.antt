@@ -4,13 +4,14 @@ use Rattle.std.specs.List.{between}
 use Rattle.std.proofs.lemmas.List.{drop_all, drop_more}
 use Rattle.std.proofs.lemmas.Slice.{between_to_end}
 use Rattle.std.proofs.lemmas.Bool.{cond-true, cond-false, cond_both, le-leb, lt-leb, leb-true, cases_lt}
+use Rattle.refusal.specs.Answers.{replied}
 use Rattle.refusal.specs.declared.Refusal.{Refusal}
 use Rattle.refusal.specs.declared.Refusal.TheVariants.{CutShort, OpenMisplaced}
 use Rattle.runlist.specs.declared.reader.Placed.{Placed}
 use Rattle.runlist.specs.declared.reader.RefusedAt.{RefusedAt}
-use Rattle.runlist.specs.Format.{Item, width_of}
+use Rattle.runlist.specs.Format.{Item, item, width_of}
 use Rattle.runlist.specs.Lists.{Next, end, refuse, command, Place, Reading, misplaced, next_of_width, next, after_next, read_on, read_list, ended_by, too_long}
-use Rattle.runlist.specs.Reads.{Given, given, nothing, refusal, placed, left_at, refused_once, first_of, rest_of, Step, ended_or, accepted}
+use Rattle.runlist.specs.Reads.{Given, given, nothing, refusal, placed, place, left_at, refused_once, first_of, rest_of, Step, accepted}
 
 -- passing over operand bytes is going on behind them
 pub read_skip : (skip : ℕ) (opened : Bool) (at : ℕ) (rest : List ℕ) → skip ≤ length rest
@@ -187,13 +188,13 @@ pub counted_refused : (all left after : Reading) (count : ℕ) (r : RefusedAt) �
     → Err r ≡ accepted all
 counted_refused all left after count r c s =
     let g = gave_refusal left after r s in
-    ap (λ (e : Option RefusedAt). ended_or e (length all.given)) (sym g.1 ∙ c.same_end)
+    ap (λ (e : Option RefusedAt). replied e (length all.given)) (sym g.1 ∙ c.same_end)
 
 pub counted_all : (all left after : Reading) (count : ℕ) → Counted all left count → Step left nothing after → Ok count ≡ accepted all
 counted_all all left after count c s =
     let g = gave_nothing left after s in
     let n : count ≡ length all.given = omega (arith, c.sum, ap length g.0) in
-    ap Ok n ∙ ap (λ (e : Option RefusedAt). ended_or e (length all.given)) (sym g.1 ∙ c.same_end)
+    ap Ok n ∙ ap (λ (e : Option RefusedAt). replied e (length all.given)) (sym g.1 ∙ c.same_end)
 
 -- an item in front of what is left stands in the list
 from_next : (at : ℕ) (n : Next) (more : ℕ → Reading) (p : Place) → placed p ≡ first_of (after_next at n more).given (after_next at n more).ended
@@ -239,15 +240,22 @@ step_stop list opened at r e =
           (cases_lt at (length list)),
     )
 
--- behind the item in front
-pub pass_front : (list : List ℕ) (opened : Bool) (at : ℕ) (p : Place) (n count : ℕ)
-    → placed p ≡ first_of (left_at list opened at).given (left_at list opened at).ended
-    → count ≡ length p.item.operands → n ≡ p.offset + 1 + count
-    → Step (left_at list opened at) (placed p) (left_at list true n) × (at < n) × (n ≤ length list) × (length list ≤ 65536)
-pass_front list opened at p n count first long stop =
-    let f = in_front list opened at p first in
-    let i = p.item in
+-- a reader that goes on at n has passed the command in front
+pub record Passed (list : List ℕ) (opened : Bool) (at : ℕ) (p : Placed) (n : ℕ) : Type 0 where
+  pub step : Step (left_at list opened at) (placed (place p)) (left_at list true n)
+  pub further : at < n
+  pub fits : n ≤ length list
+  pub short : length list ≤ 65536
+
+pub passed : (list : List ℕ) (opened : Bool) (at : ℕ) (r : Result Placed RefusedAt) (p : Placed)
+    → given (Some r) ≡ first_of (left_at list opened at).given (left_at list opened at).ended → r ≡ Ok p
+    → Passed list opened at p (p.offset + 1 + length (item p.command).operands)
+passed list opened at r p first is =
+    let i = item p.command in
+    let n = p.offset + 1 + length i.operands in
+    let gives : placed (place p) ≡ first_of (left_at list opened at).given (left_at list opened at).ended = ap (λ (x : Result Placed RefusedAt). given (Some x)) (sym is) ∙ first in
+    let f = in_front list opened at (place p) gives in
     let s = step-placed list opened at f.inside f.short i f.here in
     let fits = within_list list opened at f.inside f.short i f.here in
-    let same : n ≡ at + 1 + length i.operands = omega (arith, f.same_offset, stop, long) in
-    (record { gives = first; goes = ap (left_at list true) same ∙ s.goes }, omega arith, omega (arith, fits), f.short)
+    let same : n ≡ at + 1 + length i.operands = omega (arith, f.same_offset) in
+    record { step = record { gives = gives; goes = ap (left_at list true) same ∙ s.goes }; further = omega arith; fits = omega (arith, fits); short = f.short }

@@ -7,7 +7,7 @@ use Rattle.refusal.specs.declared.Refusal.TheVariants.{CutShort, OpenMisplaced}
 use Rattle.runlist.specs.declared.reader.RefusedAt.{RefusedAt}
 use Rattle.runlist.specs.Format.{Item, width_of}
 use Rattle.runlist.specs.Lists.{Next, end, refuse, command, Reading, misplaced, next_of_width, next, after_next, read_on, read_list, ended_by, too_long, bytes, has_width, whole, append_refusal, Writing, after_append, write_on, write_list, overwritten}
-use Rattle.runlist.specs.Reads.{ended_or}
+use Rattle.refusal.specs.Answers.{replied}
 use Rattle.runlist.specs.Writes.{written}
 use Rattle.runlist.specs.Laws.{places_from, whole_of, items_of, ReadsBack, WrittenAgain, RoundTrip}
 use Rattle.runlist.proofs.Reading.{read_skip}
@@ -207,11 +207,11 @@ round_trip = record { back = reads_back; again = written-again }
 front_of : (w : Writing) (o : Option RefusedAt) (was : List ℕ) (n : ℕ) → w.ended ≡ o → Ok n ≡ written w
     → (w.ended ≡ None) × (take n (overwritten was 0 w.wrote) ≡ w.wrote)
 front_of w None was n e ok =
-    let whole : Ok n ≡ Ok (length w.wrote) = ok ∙ ap (λ (o : Option RefusedAt). ended_or o (length w.wrote)) e in
+    let whole : Ok n ≡ Ok (length w.wrote) = ok ∙ ap (λ (o : Option RefusedAt). replied o (length w.wrote)) e in
     let long : length w.wrote ≡ n = cc in
     (e, take_at w.wrote (drop (0 + length w.wrote) was) n long)
 front_of w (Some why) was n e ok =
-    let bad : Ok n ≡ Err why = ok ∙ ap (λ (o : Option RefusedAt). ended_or o (length w.wrote)) e in
+    let bad : Ok n ≡ Err why = ok ∙ ap (λ (o : Option RefusedAt). replied o (length w.wrote)) e in
     let z : ◌≡◌ {A = ℕ} 0 1 = cc in absurd (omega arith)
 
 pub read_again : (room : ℕ) (is : List Item) (was : List ℕ) (n : ℕ) → Ok n ≡ written (write_list room is) → {buffer : List ℕ}

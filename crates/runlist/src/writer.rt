@@ -1,8 +1,8 @@
 // Appends commands to a list in a lent buffer. A refused append leaves buffer and length as they were.
 ghost use Rattle.std.specs.Prelude.{◌≡◌, ◌+◌, ◌≤◌, length};
 ghost use Rattle.runlist.specs.Format.{item};
-ghost use Rattle.runlist.specs.Lists.{bytes, append_refusal, unless, overwritten};
-ghost use Rattle.runlist.specs.Writes.{answered};
+ghost use Rattle.refusal.specs.Answers.{replied, unless_refused};
+ghost use Rattle.runlist.specs.Lists.{bytes, append_refusal, overwritten};
 
 use crate::command::Command;
 use crate::reader::MOST_BYTES;
@@ -29,23 +29,24 @@ impl<'b> Writer<'b> {
         self.len // so the next command's offset
     }
 
-    fn refusal(&self, command: Command<'_>) -> Option<Refusal>
-        ensures { result ≡ append_refusal (length self.now.buffer.now) self.now.len (item command.entry) }
+    // What an append is refused by, before it writes anything.
+    fn check(&self, command: Command<'_>) -> Result<(), Refusal>
+        ensures { result ≡ replied (append_refusal (length self.now.buffer.now) self.now.len (item command.entry)) tt }
     {
         let operands = command.bytes().len();
-        if self.len > MOST_BYTES || operands >= MOST_BYTES - self.len {
-            return Some(Refusal::ListTooLong);
+        if operands >= MOST_BYTES.saturating_sub(self.len) {
+            return Err(Refusal::ListTooLong);
         }
         if operands != command.width() {
-            return Some(Refusal::CutShort);
+            return Err(Refusal::CutShort);
         }
         if (command.letter() == 'O') == (self.len > 0) {
-            return Some(Refusal::OpenMisplaced);
+            return Err(Refusal::OpenMisplaced);
         }
         if self.len + 1 + operands > self.buffer.len() {
-            return Some(Refusal::NoRoom);
+            return Err(Refusal::NoRoom);
         }
-        None
+        Ok(())
     }
 
     // The letter, and the operands behind it.
@@ -64,14 +65,12 @@ impl<'b> Writer<'b> {
     }
 
     pub fn append(&mut self, command: Command<'_>) -> Result<(), Refusal>
-        ensures answer { result ≡ answered (append_refusal (length self.old.buffer.now) self.old.len (item command.entry)) }
-        ensures buffer { self.new.buffer.now ≡ unless (append_refusal (length self.old.buffer.now) self.old.len (item command.entry)) self.old.buffer.now (overwritten self.old.buffer.now self.old.len (bytes (item command.entry))) }
+        ensures answer { result ≡ replied (append_refusal (length self.old.buffer.now) self.old.len (item command.entry)) tt }
+        ensures buffer { self.new.buffer.now ≡ unless_refused (append_refusal (length self.old.buffer.now) self.old.len (item command.entry)) self.old.buffer.now (overwritten self.old.buffer.now self.old.len (bytes (item command.entry))) }
         ensures lent { self.new.buffer.ghost_name ≡ self.old.buffer.ghost_name }
-        ensures len { self.new.len ≡ unless (append_refusal (length self.old.buffer.now) self.old.len (item command.entry)) self.old.len (self.old.len + length (bytes (item command.entry))) }
+        ensures len { self.new.len ≡ unless_refused (append_refusal (length self.old.buffer.now) self.old.len (item command.entry)) self.old.len (self.old.len + length (bytes (item command.entry))) }
     {
-        if let Some(why) = self.refusal(command) {
-            return Err(why);
-        }
+        self.check(command)?;
         self.put(command);
         Ok(())
     }
