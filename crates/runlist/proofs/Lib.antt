@@ -1,4 +1,5 @@
 pub mod Gathering
+pub mod Hex
 pub mod Reading
 pub mod RoundTrip
 pub mod Writing

@@ -1,11 +1,8 @@
 -- One step of a reader: what is left of a list begins with the item at its front, and goes on behind its operands.
 use Rattle.std.proofs.Common.{◌≡◌, ℕ, zero, suc, ◌+◌, ◌<◌, ◌≤◌, Bool, true, false, cond, leb, List, [], ◌∷◌, length, get_or, take, drop, Some, None, Ok, Err, Option, Result, sym, refl, ap, ◌∙◌, subst, ⊎_elim, add-zero, arith, length-drop, length-take-le, drop-drop}
-use Rattle.std.specs.List.{between}
 use Rattle.std.proofs.lemmas.List.{drop_all, drop_more}
-use Rattle.std.proofs.lemmas.Slice.{between_to_end}
 use Rattle.std.proofs.lemmas.Bool.{cond-true, cond-false, cond_both, le-leb, lt-leb, leb-true, cases_lt}
 use Rattle.refusal.specs.Answers.{replied}
-use Rattle.refusal.specs.declared.Refusal.{Refusal}
 use Rattle.refusal.specs.declared.Refusal.TheVariants.{CutShort, OpenMisplaced}
 use Rattle.runlist.specs.declared.reader.Placed.{Placed}
 use Rattle.runlist.specs.declared.reader.RefusedAt.{RefusedAt}
@@ -57,21 +54,6 @@ left-short : (list : List ℕ) (opened : Bool) (at : ℕ) → length list ≤ 65
     → left_at list opened at ≡ read_on 0 opened at (drop at list)
 left-short list opened at short = cond-true _ _ _ (le-leb (length list) 65536 short)
 
-step-ended : (e : Option RefusedAt) (g : Given) (before after : Reading) → before ≡ ended_by e → g ≡ first_of [] e → after ≡ ended_by None
-    → Step before g after
-step-ended e g before after b f a = record {
-  gives = f ∙ ap (λ (r : Reading). first_of r.given r.ended) (sym b);
-  goes = a ∙ ap (λ (r : Reading). rest_of r.given r.ended) (sym b);
-}
-
-pub step_end : (list : List ℕ) (opened : Bool) (at : ℕ) → length list ≤ at → Step (left_at list opened at) nothing (left_at list opened at)
-step_end list opened at h = let e = left_end list opened at h in step-ended None nothing _ _ e refl e
-
-pub step_long : (list : List ℕ) (opened : Bool) (at : ℕ) → at < length list → 65536 < length list
-    → Step (left_at list opened at) (refusal too_long) (left_at list opened (length list))
-step_long list opened at h long =
-    step-ended (Some too_long) (refusal too_long) _ _ (left_long list opened at h long) refl (left_end list opened (length list) (omega arith))
-
 module _ (list : List ℕ) (opened : Bool) (at : ℕ) (inside : at < length list) (short : length list ≤ 65536) where
   abbrev letter : ℕ
   letter = get_or list at 0
@@ -79,19 +61,8 @@ module _ (list : List ℕ) (opened : Bool) (at : ℕ) (inside : at < length list
   abbrev front : Next
   front = next_of_width (width_of letter) opened letter (drop (at + 1) list)
 
-  -- the code reads behind the letter to the end of the list
-  pub front_part : next_of_width (width_of letter) opened letter (between (at + 1) (length list) list) ≡ front
-  front_part = ap (next_of_width (width_of letter) opened letter) (between_to_end list (at + 1) (length list) (omega arith))
-
   left_front : left_at list opened at ≡ after_next at front (λ skip. read_on skip true (suc at) (drop (at + 1) list))
   left_front = left-short list opened at short ∙ ap (read_on 0 opened at) (drop_more list at 0 inside)
-
-  pub step_refused : (why : Refusal) → refuse why ≡ front
-      → Step (left_at list opened at) (refusal (record { why = why; offset = at })) (left_at list opened (length list))
-  step_refused why e =
-      step-ended (Some (record { why = why; offset = at })) _ _ _
-      (left_front ∙ ap (λ (n : Next). after_next at n (λ skip. read_on skip true (suc at) (drop (at + 1) list))) (sym e))
-      refl (left_end list opened (length list) (omega arith))
 
   -- what is left behind an item's operands
   behind : (i : Item) → command i ≡ front

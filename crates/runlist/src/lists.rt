@@ -25,7 +25,7 @@ pub fn accept(list: &[u8]) -> Result<usize, RefusedAt>
 }
 
 // Why a list has no commands to give.
-#[derive(Clone, Copy, Debug)]
+#[derive(Clone, Copy, PartialEq, Eq, Debug)]
 pub enum ReadError {
     Refused(RefusedAt),
     Memory,

@@ -64,10 +64,11 @@ impl<'a> Reader<'a> {
                 offset: 0,
             }));
         }
-        match front(self.opened, *letter, rest) {
-            Ok(command) => Some(Ok(Placed { offset, command })),
-            Err(why) => Some(Err(RefusedAt { why, offset })),
-        }
+        Some(
+            front(self.opened, *letter, rest)
+                .map(|command| Placed { offset, command })
+                .map_err(|why| RefusedAt { why, offset }),
+        )
     }
 }
 

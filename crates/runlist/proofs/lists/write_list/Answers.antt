@@ -1,7 +1,6 @@
-use Rattle.std.proofs.Common.{◌≡◌, ℕ, map, length, Ok, Err, ap, sym, ◌∙◌, arith, rules}
+use Rattle.std.proofs.Common.{◌≡◌, ℕ, map, length, Ok, Err, ap, ◌∙◌, arith, rules}
 use Rattle.std.proofs.lemmas.Result.{err_from_is_err_and}
 use Rattle.runlist.specs.Format.{item}
-use Rattle.runlist.specs.Lists.{write_list, overwritten}
 use Rattle.runlist.proofs.RoundTrip.{read_again, round_trip}
 use Rattle.runlist.proofs.Writing.{turn_more, turn_refused, turn_all, mapped_ok, mapped_err}
 use Rattle.runlist.proofs.lists.write_list.Goals as goal

@@ -1,4 +1,4 @@
-use Rattle.std.proofs.Common.{◌≡◌, ◌<◌, length, ap, sym, ◌∙◌, arith, Some, Err, Result}
+use Rattle.std.proofs.Common.{length, ap, sym, ◌∙◌, arith, Some, Result}
 use Rattle.runlist.specs.declared.reader.Placed.{Placed}
 use Rattle.runlist.specs.declared.reader.RefusedAt.{RefusedAt}
 use Rattle.runlist.specs.Reads.{given}
