@@ -23,16 +23,16 @@ read_skip (suc skip) opened at (b ∷ rest) h =
 in_list : (ok bad : Bool) (letter width : ℕ) (rest : List ℕ) (i : Item) → leb width (length rest) ≡ ok
     → cond ok (cond bad (refuse OpenMisplaced) (command (record { letter = letter; operands = take width rest }))) (refuse CutShort) ≡ command i
     → length i.operands ≤ length rest
-in_list true true letter width rest i t e = let z : ◌≡◌ {A = ℕ} 0 1 = cc in absurd (omega arith)
+in_list true true letter width rest i t e = absurd (cc)
 in_list true false letter width rest i t e =
     let same : i.operands ≡ take width rest = cc in
     let fits = leb-true width (length rest) t in
     omega (arith, ap length same, length-take-le width rest fits)
-in_list false bad letter width rest i t e = let z : ◌≡◌ {A = ℕ} 0 1 = cc in absurd (omega arith)
+in_list false bad letter width rest i t e = absurd (cc)
 
 pub operands_fit : (width : Option ℕ) (opened : Bool) (letter : ℕ) (rest : List ℕ) (i : Item)
     → next_of_width width opened letter rest ≡ command i → length i.operands ≤ length rest
-operands_fit None opened letter rest i e = let z : ◌≡◌ {A = ℕ} 0 1 = cc in absurd (omega arith)
+operands_fit None opened letter rest i e = absurd (cc)
 operands_fit (Some width) opened letter rest i e =
     in_list (leb width (length rest)) (misplaced opened letter) letter width rest i refl e
 
@@ -94,8 +94,8 @@ module _ (list : List ℕ) (opened : Bool) (at : ℕ) (inside : at < length list
 -- what a reader gave tells how its reading began
 gave_in : (ps : List Place) (ended : Option RefusedAt) (p : Place) → placed p ≡ first_of ps ended
     → (ps ≡ p ∷ (rest_of ps ended).given) × ((rest_of ps ended).ended ≡ ended)
-gave_in [] None p e = let n : ◌≡◌ {A = ℕ} 0 1 = cc in absurd (omega arith)
-gave_in [] (Some r) p e = let n : ◌≡◌ {A = ℕ} 0 1 = cc in absurd (omega arith)
+gave_in [] None p e = absurd (cc)
+gave_in [] (Some r) p e = absurd (cc)
 gave_in (q ∷ ps) ended p e = let same : q ≡ p = cc in (ap (λ (x : Place). x ∷ ps) same, refl)
 
 pub gave_item : (before after : Reading) (p : Place) → Step before (placed p) after
@@ -105,17 +105,17 @@ gave_item before after p s =
     (g.0 ∙ ap (λ (r : Reading). p ∷ r.given) (sym s.goes), ap (λ (r : Reading). r.ended) s.goes ∙ g.1)
 
 refused_in : (ps : List Place) (ended : Option RefusedAt) (r : RefusedAt) → refusal r ≡ first_of ps ended → (ps ≡ []) × (ended ≡ Some r)
-refused_in [] None r e = let n : ◌≡◌ {A = ℕ} 0 1 = cc in absurd (omega arith)
+refused_in [] None r e = absurd (cc)
 refused_in [] (Some q) r e = let same : q ≡ r = cc in (refl, ap Some same)
-refused_in (q ∷ ps) ended r e = let n : ◌≡◌ {A = ℕ} 0 1 = cc in absurd (omega arith)
+refused_in (q ∷ ps) ended r e = absurd (cc)
 
 pub gave_refusal : (before after : Reading) (r : RefusedAt) → Step before (refusal r) after → (before.given ≡ []) × (before.ended ≡ Some r)
 gave_refusal before after r s = refused_in before.given before.ended r s.gives
 
 ended_in : (ps : List Place) (ended : Option RefusedAt) → nothing ≡ first_of ps ended → (ps ≡ []) × (ended ≡ None)
 ended_in [] None e = (refl, refl)
-ended_in [] (Some q) e = let n : ◌≡◌ {A = ℕ} 0 1 = cc in absurd (omega arith)
-ended_in (q ∷ ps) ended e = let n : ◌≡◌ {A = ℕ} 0 1 = cc in absurd (omega arith)
+ended_in [] (Some q) e = absurd (cc)
+ended_in (q ∷ ps) ended e = absurd (cc)
 
 pub gave_nothing : (before after : Reading) → Step before nothing after → (before.given ≡ []) × (before.ended ≡ None)
 gave_nothing before after s = ended_in before.given before.ended s.gives
@@ -170,8 +170,8 @@ counted_all all left after count c s =
 -- an item in front of what is left stands in the list
 from_next : (at : ℕ) (n : Next) (more : ℕ → Reading) (p : Place) → placed p ≡ first_of (after_next at n more).given (after_next at n more).ended
     → (p.offset ≡ at) × (command p.item ≡ n)
-from_next at end more p e = let n : ◌≡◌ {A = ℕ} 0 1 = cc in absurd (omega arith)
-from_next at (refuse why) more p e = let n : ◌≡◌ {A = ℕ} 0 1 = cc in absurd (omega arith)
+from_next at end more p e = absurd (cc)
+from_next at (refuse why) more p e = absurd (cc)
 from_next at (command i) more p e =
     let same : p ≡ record { offset = at; item = i } = cc in
     (ap (λ (q : Place). q.offset) same, ap (λ (q : Place). command q.item) same)
@@ -188,12 +188,12 @@ in_front list opened at p e =
     let first : Reading → Given = λ r. first_of r.given r.ended in
     ⊎_elim
     (λ inside. ⊎_elim
-    (λ long. let bad : placed p ≡ refusal too_long = e ∙ ap first (left_long list opened at inside long) in let n : ◌≡◌ {A = ℕ} 0 1 = cc in absurd (omega arith))
+    (λ long. let bad : placed p ≡ refusal too_long = e ∙ ap first (left_long list opened at inside long) in absurd (cc))
     (λ short.
     let f = from_next at (front list opened at inside short) (λ skip. read_on skip true (suc at) (drop (at + 1) list)) p (e ∙ ap first (left_front list opened at inside short)) in
     record { inside = inside; short = short; same_offset = f.0; here = f.1 })
     (cases_lt 65536 (length list)))
-    (λ past. let bad : placed p ≡ nothing = e ∙ ap first (left_end list opened at past) in let n : ◌≡◌ {A = ℕ} 0 1 = cc in absurd (omega arith))
+    (λ past. let bad : placed p ≡ nothing = e ∙ ap first (left_end list opened at past) in absurd (cc))
     (cases_lt at (length list))
 
 -- a refusal in front leaves nothing behind it, and stands before the end
@@ -207,7 +207,7 @@ step_stop list opened at r e =
         goes = left_end list opened (length list) (omega arith) ∙ ap (λ (ps : List Place). rest_of ps (left_at list opened at).ended) (sym none.0);
       },
       ⊎_elim (λ inside. inside)
-          (λ past. let bad : refusal r ≡ nothing = e ∙ ap (λ (q : Reading). first_of q.given q.ended) (left_end list opened at past) in let n : ◌≡◌ {A = ℕ} 0 1 = cc in absurd (omega arith))
+          (λ past. let bad : refusal r ≡ nothing = e ∙ ap (λ (q : Reading). first_of q.given q.ended) (left_end list opened at past) in absurd (cc))
           (cases_lt at (length list)),
     )
 

@@ -1,6 +1,5 @@
--- One step of the writer: an append that is not refused passed every test, and a letter set and operands copied behind it are the item's bytes over what stood there.
-use Rattle.std.proofs.Common.{◌≡◌, ℕ, suc, ◌+◌, ◌-◌, ◌<◌, ◌≤◌, Bool, true, false, cond, ltb, leb, List, [], ◌∷◌, ◌++◌, map, length, get_or, take, drop, set, Some, None, Ok, Err, Option, Result, MatchResult, is_ok, sym, refl, ap, ◌∙◌, subst, append_assoc, append-nil, add-one, arith, length-append, length-drop, take-append-drop, length-take-le, drop-drop, take-suc-set, take_at, drop-set-lt, drop_at}
-use borrow.Rule.Slice.PartMut.{put_mid, post_of, Post-is}
+-- One step of the writer, and the loop over commands: an append that is not refused passed every test.
+use Rattle.std.proofs.Common.{◌≡◌, ℕ, ◌+◌, ◌<◌, ◌≤◌, Bool, true, false, cond, ltb, leb, List, [], ◌∷◌, ◌++◌, map, length, get_or, take, drop, Some, None, Ok, Err, Option, Result, MatchResult, is_ok, sym, refl, ap, ◌∙◌, subst, append_assoc, append-nil, arith, length-append, length-drop, take-append-drop, length-take-le, drop-drop, take_at, drop_at}
 use Rattle.std.proofs.lemmas.List.{drop_more, drop-map, drop_all}
 use Rattle.std.proofs.lemmas.Bool.{leb-true}
 use Rattle.std.proofs.lemmas.Result.{err_from_is_err_and}
@@ -17,11 +16,11 @@ use Rattle.runlist.specs.Writes.{written}
 passed : (long wide bad roomy : Bool) (too_long cut placed full : Refusal)
     → cond long (cond wide (cond bad (Some placed) (cond roomy None (Some full))) (Some cut)) (Some too_long) ≡ None
     → (long ≡ true) × (wide ≡ true) × (bad ≡ false) × (roomy ≡ true)
-passed true true true roomy w x y z e = let n : ◌≡◌ {A = ℕ} 0 1 = cc in absurd (omega arith)
+passed true true true roomy w x y z e = absurd (cc)
 passed true true false true w x y z e = (refl, refl, refl, refl)
-passed true true false false w x y z e = let n : ◌≡◌ {A = ℕ} 0 1 = cc in absurd (omega arith)
-passed true false bad roomy w x y z e = let n : ◌≡◌ {A = ℕ} 0 1 = cc in absurd (omega arith)
-passed false wide bad roomy w x y z e = let n : ◌≡◌ {A = ℕ} 0 1 = cc in absurd (omega arith)
+passed true true false false w x y z e = absurd (cc)
+passed true false bad roomy w x y z e = absurd (cc)
+passed false wide bad roomy w x y z e = absurd (cc)
 
 -- an append that is not refused
 pub record Appended (room len : ℕ) (i : Item) : Type 0 where
@@ -34,24 +33,6 @@ pub appended : (room len : ℕ) (i : Item) → append_refusal room len i ≡ Non
 appended room len i e =
     let p = passed (leb (len + length (bytes i)) 65536) (whole i) (misplaced (ltb 0 len) i.letter) (leb (len + length (bytes i)) room) _ _ _ _ e in
     record { short = leb-true _ _ p.0; wide = p.1; placed = p.2; roomy = leb-true _ _ p.3 }
-
-module _ (buffer : List ℕ) (len letter : ℕ) (operands : List ℕ) (room : len + 1 + length operands ≤ length buffer) where
-  abbrev marked : List ℕ
-  marked = set buffer len letter
-
-  abbrev stop : ℕ
-  stop = len + 1 + length operands
-
-  front : take (len + 1) marked ≡ take len buffer ++ letter ∷ []
-  front = ap (λ (n : ℕ). take n marked) (add-one len) ∙ take-suc-set buffer len letter (omega arith)
-
-  back : post_of (len + 1) (stop - (len + 1)) marked ≡ drop (len + suc (length operands)) buffer
-  back =
-      Post-is (len + 1) stop marked (omega arith) ∙ drop-set-lt stop buffer len letter (omega arith)
-      ∙ ap (λ (n : ℕ). drop n buffer) (let e : stop ≡ len + suc (length operands) = omega arith in e)
-
-  pub put-bytes : put_mid (len + 1) (stop - (len + 1)) marked operands ≡ overwritten buffer len (letter ∷ operands)
-  put-bytes = (λ i. front i ++ (operands ++ back i)) ∙ simp append_assoc
 
 -- what was written before, and then more
 abbrev pub behind : List ℕ → Writing → Writing
@@ -114,10 +95,10 @@ module _ (was : List ℕ) (is : List Item) (index : ℕ) (buffer : List ℕ) (le
 
 reply_ok : (o : Option Refusal) → is_ok (replied o (tt {0})) ≡ true → None ≡ o
 reply_ok None e = refl
-reply_ok (Some why) e = let n : ◌≡◌ {A = ℕ} 0 1 = cc in absurd (omega arith)
+reply_ok (Some why) e = absurd (cc)
 
 reply_err : (o : Option Refusal) (why : Refusal) → Err why ≡ replied o (tt {0}) → Some why ≡ o
-reply_err None why e = let n : ◌≡◌ {A = ℕ} 0 1 = cc in absurd (omega arith)
+reply_err None why e = absurd (cc)
 reply_err (Some other) why e = cc
 
 -- a refused call leaves what was
@@ -135,7 +116,7 @@ module _ (o : Option Refusal) (r : Result (Unit {0}) Refusal) (q : Result (Unit 
     where
       by_cases : (v : Result (Unit {0}) Refusal) → v ≡ replied o (tt {0}) → MatchResult v (λ x. q ≡ Ok x) (λ e. IsErrAnd q (Q e))
           → (why : Refusal) × (Err why ≡ replied o (tt {0})) × Q why y
-      by_cases (Ok x) a h = let n : ◌≡◌ {A = ℕ} 0 1 = cc in absurd (omega arith)
+      by_cases (Ok x) a h = absurd (cc)
       by_cases (Err why) a h =
           let d = err_from_is_err_and {Q = Q why} q h in
           let same : d.0 ≡ y = let both = sym d.1 ∙ e in cc in

@@ -1,7 +1,7 @@
 use Rattle.std.proofs.Common.{length, Err, ap, ◌∙◌, arith}
 use Rattle.std.proofs.lemmas.Result.{err_from_is_err_and}
 use Rattle.runlist.specs.Reads.{place}
-use Rattle.runlist.proofs.Reading.{counted_more, counted_refused, counted_all, gave_item, few_items, step_of}
+use Rattle.runlist.proofs.Reading.{counted_more, counted_refused, gave_item, few_items, step_of}
 use Rattle.runlist.proofs.lists.accept.Goals as goal
 
 pub returns-in_err-read : goal.returns-in_err-read
@@ -20,6 +20,3 @@ pub loop-read-preserved : goal.loop-read-preserved
 loop-read-preserved c =
     let s = step_of c.in_ok-read.was c.in-Some.ensures.steps in
     (tt, tt, counted_more _ _ _ c.loop-read.count (place c.in_ok-read.field-0) c.loop-read.invariant.2 s)
-
-pub returns : goal.returns
-returns c = counted_all _ _ _ c.loop-read.count c.loop-read.invariant.2 c.in-None.ensures.steps
