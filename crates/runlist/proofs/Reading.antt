@@ -6,9 +6,13 @@ use Rattle.refusal.specs.Answers.{replied}
 use Rattle.refusal.specs.declared.Refusal.TheVariants.{CutShort, OpenMisplaced}
 use Rattle.runlist.specs.declared.reader.Placed.{Placed}
 use Rattle.runlist.specs.declared.reader.RefusedAt.{RefusedAt}
+use Rattle.runlist.specs.declared.reader.Reader.{Reader}
+use Rattle.std.specs.Iterator.{Yields}
+use Rattle.std.specs.List.{FoldsTo}
+use Rattle.std.specs.Option.{MatchOption}
 use Rattle.runlist.specs.Format.{Item, item, width_of}
 use Rattle.runlist.specs.Lists.{Next, end, refuse, command, Place, Reading, misplaced, next_of_width, next, after_next, read_on, read_list, ended_by, too_long}
-use Rattle.runlist.specs.Reads.{Given, given, nothing, refusal, placed, place, left_at, refused_once, first_of, rest_of, Step, accepted}
+use Rattle.runlist.specs.Reads.{Given, given, nothing, refusal, placed, place, left_at, refused_once, first_of, rest_of, Step, accepted, to_come}
 
 -- passing over operand bytes is going on behind them
 pub read_skip : (skip : ℕ) (opened : Bool) (at : ℕ) (rest : List ℕ) → skip ≤ length rest
@@ -230,3 +234,33 @@ passed list opened at r p first is =
     let fits = within_list list opened at f.inside f.short i f.here in
     let same : n ≡ at + 1 + length i.operands = omega (arith, f.same_offset) in
     record { step = record { gives = gives; goes = ap (left_at list true) same ∙ s.goes }; further = omega arith; fits = omega (arith, fits); short = f.short }
+
+-- the turns of a fold over a reader that counts its items
+module _ {P : Type 0} (turn : P → Result Placed RefusedAt → P → Type 0) (count : P → ℕ)
+    (more : (p : P) (x : Placed) (q : P) → turn p (Ok x) q → count q ≡ count p + 1) (stops : (p : P) (e : RefusedAt) (q : P) → turn p (Err e) q → ⊥) where
+  abbrev steps : Reader → Option (Result Placed RefusedAt) → Reader → Type 0
+  steps = λ s r t. Step (to_come s) (given r) (to_come t)
+
+  pub counted_turns : (all : Reading) (xs : List (Result Placed RefusedAt)) (s t : Reader) (p q : P) → Counted all (to_come s) (count p)
+      → Yields steps s xs t → FoldsTo turn p xs q → Counted all (to_come t) (count q)
+  counted_turns all [] s t p q c y f = subst (λ (r : Reader). Counted all (to_come r) (count q)) y (subst (λ (v : P). Counted all (to_come s) (count v)) f c)
+  counted_turns all (Ok x ∷ xs) s t p q c y f =
+      let next = counted_more all (to_come s) (to_come y.0) (count p) (place x) c y.1 in
+      counted_turns all xs y.0 t f.0 q (subst (Counted all (to_come y.0)) (sym (more p x f.0 f.1)) next) y.2 f.2
+  counted_turns all (Err e ∷ xs) s t p q c y f = absurd (stops p e f.0 f.1)
+
+pub counted_none : (list : List ℕ) (first : Reading) → first ≡ read_list list → Counted (read_list list) first 0
+counted_none list first e = rw e (record { sum = omega arith; same_end = refl })
+
+pub counted_room : (list : List ℕ) (left after : Reading) (count : ℕ) (p : Placed) → Counted (read_list list) left count
+    → Step left (given (Some (Ok p))) after → count + 1 ≤ length list
+counted_room list left after count p c s =
+    let g = gave_item left after (place p) s in omega (arith, c.sum, ap length g.0, few_items list)
+
+-- where a fold over a reader ends: behind the last item, or at the refusal that a turn hands on
+pub counted_end : (all left after : Reading) (count : ℕ) (r : Result ℕ RefusedAt) (o : Option (Result Placed RefusedAt))
+    (whole : Type 0) (broke : Result Placed RefusedAt → Type 0) → (whole → r ≡ Ok count) → ((p : Placed) → broke (Ok p) → ⊥) → ((e : RefusedAt) → broke (Err e) → r ≡ Err e)
+    → Counted all left count → Step left (given o) after → MatchOption o whole broke → r ≡ accepted all
+counted_end all left after count r None whole broke ends goes fails c s m = ends m ∙ counted_all all left after count c s
+counted_end all left after count r (Some (Ok p)) whole broke ends goes fails c s m = absurd (goes p m)
+counted_end all left after count r (Some (Err e)) whole broke ends goes fails c s m = fails e m ∙ counted_refused all left after count e c s

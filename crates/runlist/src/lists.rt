@@ -16,12 +16,7 @@ use std::alloc::{AllocFailed, Global};
 pub fn accept(list: &[u8]) -> Result<usize, RefusedAt>
     ensures { result ≡ accepted (read_list list.now) }
 {
-    let mut count = 0;
-    for read in Reader::new(list) {
-        read?;
-        count += 1;
-    }
-    Ok(count)
+    Reader::new(list).try_fold(0, |count, read| read.map(|_| count + 1))
 }
 
 // Why a list has no commands to give.
