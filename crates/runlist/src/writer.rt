@@ -49,21 +49,6 @@ impl<'b> Writer<'b> {
         Ok(())
     }
 
-    // The letter, and the operands behind it.
-    fn put(&mut self, command: Command<'_>)
-        requires { self.old.len + length (bytes (item command)) ≤ length self.old.buffer.now }
-        ensures buffer { self.new.buffer.now ≡ overwritten self.old.buffer.now self.old.len (bytes (item command.entry)) }
-        ensures lent { self.new.buffer.ghost_name ≡ self.old.buffer.ghost_name }
-        ensures len { self.new.len ≡ self.old.len + length (bytes (item command.entry)) }
-    {
-        let operands = command.bytes();
-        let start = self.len + 1;
-        let end = start + operands.len();
-        self.buffer[self.len] = command.letter() as u8;
-        self.buffer[start..end].copy_from_slice(operands);
-        self.len = end;
-    }
-
     pub fn append(&mut self, command: Command<'_>) -> Result<(), Refusal>
         ensures answer { result ≡ replied (append_refusal (length self.old.buffer.now) self.old.len (item command.entry)) tt }
         ensures buffer { self.new.buffer.now ≡ unless_refused (append_refusal (length self.old.buffer.now) self.old.len (item command.entry)) self.old.buffer.now (overwritten self.old.buffer.now self.old.len (bytes (item command.entry))) }
@@ -71,7 +56,12 @@ impl<'b> Writer<'b> {
         ensures len { self.new.len ≡ unless_refused (append_refusal (length self.old.buffer.now) self.old.len (item command.entry)) self.old.len (self.old.len + length (bytes (item command.entry))) }
     {
         self.check(command)?;
-        self.put(command);
+        let operands = command.bytes();
+        let start = self.len + 1;
+        let end = start + operands.len();
+        self.buffer[self.len] = command.letter() as u8;
+        self.buffer[start..end].copy_from_slice(operands);
+        self.len = end;
         Ok(())
     }
 }
