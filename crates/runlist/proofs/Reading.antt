@@ -40,14 +40,10 @@ operands_fit None opened letter rest i e = absurd (cc)
 operands_fit (Some width) opened letter rest i e =
     in_list (leb width (length rest)) (misplaced opened letter) letter width rest i refl e
 
-either_way : {X : Type 0} (b : Bool) (x : X) → cond b x x ≡ x
-either_way true x = refl
-either_way false x = refl
-
 pub left_end : (list : List ℕ) (opened : Bool) (at : ℕ) → length list ≤ at → left_at list opened at ≡ ended_by None
 left_end list opened at h =
     ap (λ (d : List ℕ). cond (leb (length list) 65536) (read_on 0 opened at d) (refused_once d)) (drop_all at list h)
-    ∙ either_way (leb (length list) 65536) (ended_by None)
+    ∙ cond_both (leb (length list) 65536) _ _ (λ (r : Reading). r ≡ ended_by None) (λ _. refl) (λ _. refl)
 
 left_long : (list : List ℕ) (opened : Bool) (at : ℕ) → at < length list → 65536 < length list
     → left_at list opened at ≡ ended_by (Some too_long)
@@ -200,40 +196,34 @@ in_front list opened at p e =
     (λ past. let bad : placed p ≡ nothing = e ∙ ap first (left_end list opened at past) in absurd (cc))
     (cases_lt at (length list))
 
--- a refusal in front leaves nothing behind it, and stands before the end
-pub step_stop : (list : List ℕ) (opened : Bool) (at : ℕ) (r : RefusedAt)
-    → refusal r ≡ first_of (left_at list opened at).given (left_at list opened at).ended
-    → Step (left_at list opened at) (refusal r) (left_at list opened (length list)) × (at < length list)
-step_stop list opened at r e =
-    let none = refused_in (left_at list opened at).given (left_at list opened at).ended r e in (
-      record {
-        gives = e;
-        goes = left_end list opened (length list) (omega arith) ∙ ap (λ (ps : List Place). rest_of ps (left_at list opened at).ended) (sym none.0);
-      },
-      ⊎_elim (λ inside. inside)
-          (λ past. let bad : refusal r ≡ nothing = e ∙ ap (λ (q : Reading). first_of q.given q.ended) (left_end list opened at past) in absurd (cc))
-          (cases_lt at (length list)),
-    )
+-- a reader stops behind the refusal in front of it
+pub stopped : (r : Reader) {x : Result Placed RefusedAt} {e : RefusedAt} → given (Some x) ≡ first_of (to_come r).given (to_come r).ended → x ≡ Err e
+    → Step (to_come r) (refusal e) (left_at r.list.now r.opened (length r.list.now))
+stopped r {x} {e} first is =
+    let gives : refusal e ≡ first_of (to_come r).given (to_come r).ended = ap (λ (v : Result Placed RefusedAt). given (Some v)) (sym is) ∙ first in
+    let none = refused_in (to_come r).given (to_come r).ended e gives in record {
+      gives = gives;
+      goes = left_end r.list.now r.opened (length r.list.now) (omega arith) ∙ ap (λ (ps : List Place). rest_of ps (to_come r).ended) (sym none.0);
+    }
 
--- a reader that goes on at n has passed the command in front
-pub record Passed (list : List ℕ) (opened : Bool) (at : ℕ) (p : Placed) (n : ℕ) : Type 0 where
-  pub step : Step (left_at list opened at) (placed (place p)) (left_at list true n)
-  pub further : at < n
-  pub fits : n ≤ length list
-  pub short : length list ≤ 65536
+-- where a reader goes on that has passed the command in front
+pub record Passed (r : Reader) (p : Placed) (n : ℕ) : Type 0 where
+  pub step : Step (to_come r) (placed (place p)) (left_at r.list.now true n)
+  pub further : r.at < n
+  pub fits : n ≤ length r.list.now
+  pub short : length r.list.now ≤ 65536
 
-pub passed : (list : List ℕ) (opened : Bool) (at : ℕ) (r : Result Placed RefusedAt) (p : Placed)
-    → given (Some r) ≡ first_of (left_at list opened at).given (left_at list opened at).ended → r ≡ Ok p
-    → Passed list opened at p (p.offset + 1 + length (item p.command).operands)
-passed list opened at r p first is =
+pub passed : (r : Reader) {x : Result Placed RefusedAt} {p : Placed} → given (Some x) ≡ first_of (to_come r).given (to_come r).ended → x ≡ Ok p
+    → Passed r p (p.offset + 1 + length (item p.command).operands)
+passed r {x} {p} first is =
     let i = item p.command in
     let n = p.offset + 1 + length i.operands in
-    let gives : placed (place p) ≡ first_of (left_at list opened at).given (left_at list opened at).ended = ap (λ (x : Result Placed RefusedAt). given (Some x)) (sym is) ∙ first in
-    let f = in_front list opened at (place p) gives in
-    let s = step-placed list opened at f.inside f.short i f.here in
-    let fits = within_list list opened at f.inside f.short i f.here in
-    let same : n ≡ at + 1 + length i.operands = omega (arith, f.same_offset) in
-    record { step = record { gives = gives; goes = ap (left_at list true) same ∙ s.goes }; further = omega arith; fits = omega (arith, fits); short = f.short }
+    let gives : placed (place p) ≡ first_of (to_come r).given (to_come r).ended = ap (λ (v : Result Placed RefusedAt). given (Some v)) (sym is) ∙ first in
+    let f = in_front r.list.now r.opened r.at (place p) gives in
+    let s = step-placed r.list.now r.opened r.at f.inside f.short i f.here in
+    let fits = within_list r.list.now r.opened r.at f.inside f.short i f.here in
+    let same : n ≡ r.at + 1 + length i.operands = omega (arith, f.same_offset) in
+    record { step = record { gives = gives; goes = ap (left_at r.list.now true) same ∙ s.goes }; further = omega arith; fits = omega (arith, fits); short = f.short }
 
 -- the turns of a fold over a reader that counts its items
 module _ {P : Type 0} (turn : P → Result Placed RefusedAt → P → Type 0) (count : P → ℕ)

@@ -8,6 +8,7 @@ use crate::command::Command;
 use crate::reader::MOST_BYTES;
 use refusal::Refusal;
 
+// The caller lends the bytes, since nothing is allocated here: how far they are filled is counted beside them.
 #[derive(Drop)]
 pub struct Writer<'b> {
     buffer: &'b mut [u8],
