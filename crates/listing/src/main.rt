@@ -2,8 +2,8 @@
 // and that its commands, written again, are the same bytes.
 #![tactic(auto)]
 
-use anyhow::anyhow;
-use runlist::{MOST_BYTES, ReadError, Reader};
+use anyhow::{bail, ensure};
+use runlist::{MOST_BYTES, Reader};
 use std::env;
 use std::io::Read;
 use std::process::ExitCode;
@@ -28,15 +28,14 @@ fn main(rt: HostRuntime) -> anyhow::Result<ExitCode> {
 }
 
 fn run(rt: &HostRuntime) -> anyhow::Result<bool> {
-    for arg in env::args(rt)?.skip(1) {
-        if arg.as_str() == "--help" {
+    match env::args(rt)?.nth(1) {
+        None => print_list(rt, read_input(rt)?.as_slice()),
+        Some(arg) if arg.as_str() == "--help" => {
             println!(rt; "{HELP}")?;
-            return Ok(true);
+            Ok(true)
         }
-        return Err(anyhow!("unknown argument {arg}; try --help"));
+        Some(arg) => bail!("unknown argument {arg}; try --help"),
     }
-    let list = read_input(rt)?;
-    print_list(rt, list.as_slice())
 }
 
 // One byte past the longest list is enough to see that it is too long.
@@ -50,10 +49,8 @@ fn read_input(rt: &HostRuntime) -> anyhow::Result<Vec<u8>> {
 
 fn print_list(rt: &HostRuntime, list: &[u8]) -> anyhow::Result<bool> {
     let heap = rt.alloc();
-    for read in Reader::new(list) {
-        if let Ok(placed) = read {
-            println!(rt; "{}", wording::line(heap, placed)?)?;
-        }
+    for placed in Reader::new(list).filter_map(Result::ok) {
+        println!(rt; "{}", wording::line(heap, placed)?)?;
     }
     let accepted = runlist::accept(list);
     println!(rt; "{}", wording::verdict(heap, accepted, list.len())?)?;
@@ -66,18 +63,10 @@ fn print_list(rt: &HostRuntime, list: &[u8]) -> anyhow::Result<bool> {
 
 fn print_again(rt: &HostRuntime, list: &[u8]) -> anyhow::Result<()> {
     let heap = rt.alloc();
-    let commands = match runlist::read_list(heap, list) {
-        Ok(commands) => commands,
-        Err(ReadError::Refused(_)) => return Err(anyhow!("a list that was accepted is refused")),
-        Err(ReadError::Memory) => return Err(anyhow!("out of memory")),
-    };
+    let commands = runlist::read_list(heap, list)?;
     let mut buffer = vec![in heap; 0u8; list.len()]?;
-    match runlist::write_list(commands.as_slice(), buffer.as_mut_slice()) {
-        Ok(len) if buffer.as_slice() == list => println!(rt;
-            "{}",
-            wording::written_again(heap, len)?
-        )?,
-        _ => return Err(anyhow!("written again, the list differs")),
-    }
+    let len = runlist::write_list(commands.as_slice(), buffer.as_mut_slice())?;
+    ensure!(buffer.as_slice() == list, "written again, the list differs");
+    println!(rt; "{}", wording::written_again(heap, len)?)?;
     Ok(())
 }

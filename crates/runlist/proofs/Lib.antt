@@ -1,5 +1,5 @@
 pub mod Gathering
-pub mod Numbers
+pub mod Hex
 pub mod Reading
 pub mod RoundTrip
 pub mod Writing

@@ -7,7 +7,7 @@ use Rattle.refusal.specs.declared.Refusal.TheVariants.{CutShort, OpenMisplaced}
 use Rattle.runlist.specs.declared.reader.RefusedAt.{RefusedAt}
 use Rattle.runlist.specs.Format.{Item, width_of}
 use Rattle.runlist.specs.Lists.{Next, end, refuse, command, Reading, misplaced, next_of_width, next, after_next, read_on, read_list, ended_by, too_long, bytes, has_width, whole, append_refusal, Writing, after_append, write_on, write_list, overwritten}
-use Rattle.runlist.specs.Reads.{ended_or}
+use Rattle.refusal.specs.Answers.{replied}
 use Rattle.runlist.specs.Writes.{written}
 use Rattle.runlist.specs.Laws.{places_from, whole_of, items_of, ReadsBack, WrittenAgain, RoundTrip}
 use Rattle.runlist.proofs.Reading.{read_skip}
@@ -15,11 +15,11 @@ use Rattle.runlist.proofs.Writing.{appended}
 
 -- a writing that no refusal ended has appended its first item
 unended : (len : ℕ) (o : Option Refusal) (new : List ℕ) (more : Writing) → (after_append len o new more).ended ≡ None → o ≡ None
-unended len (Some why) new more e = let n : ◌≡◌ {A = ℕ} 0 1 = cc in absurd (omega arith)
+unended len (Some why) new more e = absurd (cc)
 unended len None new more e = refl
 
 width_known : (o : Option ℕ) (count : ℕ) → has_width o count ≡ true → o ≡ Some count
-width_known None count e = let n : ◌≡◌ {A = ℕ} 0 1 = cc in absurd (omega arith)
+width_known None count e = absurd (cc)
 width_known (Some width) count e = ap Some (eqb-true width count e)
 
 -- in front of other bytes, an item that is whole and in its place is found again
@@ -97,10 +97,10 @@ found_some : (long bad opened : Bool) (letter width : ℕ) (rest : List ℕ) (i 
     → next_of_width (Some width) opened letter rest ≡ command i → Found opened letter rest i
 found_some false bad opened letter width rest i t m w e =
     let cut : next_of_width (Some width) opened letter rest ≡ refuse CutShort = cond-false _ _ _ t in
-    let n : ◌≡◌ {A = ℕ} 0 1 = cc in absurd (omega arith)
+    absurd (cc)
 found_some true true opened letter width rest i t m w e =
     let bad : next_of_width (Some width) opened letter rest ≡ refuse OpenMisplaced = cond-true _ _ _ t ∙ cond-true _ _ _ m in
-    let n : ◌≡◌ {A = ℕ} 0 1 = cc in absurd (omega arith)
+    absurd (cc)
 found_some true false opened letter width rest i t m w e =
     let fits = leb-true width (length rest) t in
     let good : next_of_width (Some width) opened letter rest ≡ command (record { letter = letter; operands = take width rest }) = cond-true _ _ _ t ∙ cond-false _ _ _ m in
@@ -118,7 +118,7 @@ found_some true false opened letter width rest i t m w e =
 
 found : (o : Option ℕ) (opened : Bool) (letter : ℕ) (rest : List ℕ) (i : Item)
     → width_of letter ≡ o → next_of_width o opened letter rest ≡ command i → Found opened letter rest i
-found None opened letter rest i w e = let n : ◌≡◌ {A = ℕ} 0 1 = cc in absurd (omega arith)
+found None opened letter rest i w e = absurd (cc)
 found (Some width) opened letter rest i w e =
     found_some (leb width (length rest)) (misplaced opened letter) opened letter width rest i refl refl w e
 
@@ -136,12 +136,12 @@ append_again room at letter rest i f short roomy =
 
 -- a letter in front is an item or is refused, and never the end
 choose : (long bad : Bool) (i : Item) → cond long (cond bad (refuse OpenMisplaced) (command i)) (refuse CutShort) ≡ end → ⊥
-choose true true i e = let n : ◌≡◌ {A = ℕ} 0 1 = cc in omega arith
-choose true false i e = let n : ◌≡◌ {A = ℕ} 0 1 = cc in omega arith
-choose false bad i e = let n : ◌≡◌ {A = ℕ} 0 1 = cc in omega arith
+choose true true i e = cc
+choose true false i e = cc
+choose false bad i e = cc
 
 no_end : (o : Option ℕ) (opened : Bool) (letter : ℕ) (rest : List ℕ) → next_of_width o opened letter rest ≡ end → ⊥
-no_end None opened letter rest e = let n : ◌≡◌ {A = ℕ} 0 1 = cc in omega arith
+no_end None opened letter rest e = cc
 no_end (Some width) opened letter rest e = choose (leb width (length rest)) (misplaced opened letter) (record { letter = letter; operands = take width rest }) e
 
 module _ (room : ℕ) where
@@ -156,7 +156,7 @@ module _ (room : ℕ) where
       → (after_next at n (λ skip. read_on skip true (suc at) rest)).ended ≡ None
       → write_on room at (items_of (after_next at n (λ skip. read_on skip true (suc at) rest)).given) ≡ record { wrote = b ∷ rest; ended = None }
   again_front at b rest end is short roomy more e = absurd (no_end (width_of b) (ltb 0 at) b rest is)
-  again_front at b rest (refuse why) is short roomy more e = let n : ◌≡◌ {A = ℕ} 0 1 = cc in absurd (omega arith)
+  again_front at b rest (refuse why) is short roomy more e = absurd (cc)
   again_front at b rest (command i) is short roomy more e =
       let f = found (width_of b) (ltb 0 at) b rest i refl is in
       let ops = i.operands in
@@ -198,7 +198,7 @@ written-again room list e roomy = on (leb (length list) 65536) refl
     on false t =
         let is : read_list list ≡ ended_by (Some too_long) = cond-false _ _ _ t in
         let some : None ≡ Some too_long = sym e ∙ ap (λ (r : Reading). r.ended) is in
-        let n : ◌≡◌ {A = ℕ} 0 1 = cc in absurd (omega arith)
+        absurd (cc)
 
 pub round_trip : RoundTrip
 round_trip = record { back = reads_back; again = written-again }
@@ -207,12 +207,12 @@ round_trip = record { back = reads_back; again = written-again }
 front_of : (w : Writing) (o : Option RefusedAt) (was : List ℕ) (n : ℕ) → w.ended ≡ o → Ok n ≡ written w
     → (w.ended ≡ None) × (take n (overwritten was 0 w.wrote) ≡ w.wrote)
 front_of w None was n e ok =
-    let whole : Ok n ≡ Ok (length w.wrote) = ok ∙ ap (λ (o : Option RefusedAt). ended_or o (length w.wrote)) e in
+    let whole : Ok n ≡ Ok (length w.wrote) = ok ∙ ap (λ (o : Option RefusedAt). replied o (length w.wrote)) e in
     let long : length w.wrote ≡ n = cc in
     (e, take_at w.wrote (drop (0 + length w.wrote) was) n long)
 front_of w (Some why) was n e ok =
-    let bad : Ok n ≡ Err why = ok ∙ ap (λ (o : Option RefusedAt). ended_or o (length w.wrote)) e in
-    let z : ◌≡◌ {A = ℕ} 0 1 = cc in absurd (omega arith)
+    let bad : Ok n ≡ Err why = ok ∙ ap (λ (o : Option RefusedAt). replied o (length w.wrote)) e in
+    absurd (cc)
 
 pub read_again : (room : ℕ) (is : List Item) (was : List ℕ) (n : ℕ) → Ok n ≡ written (write_list room is) → {buffer : List ℕ}
     → buffer ≡ overwritten was 0 (write_list room is).wrote → read_list (take n buffer) ≡ whole_of is

@@ -3,3 +3,4 @@ pub mod Laws
 pub mod Lists
 pub mod Reads
 pub mod Writes
+pub mod Words

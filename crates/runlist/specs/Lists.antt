@@ -92,11 +92,6 @@ append_refusal room len i =
     (Some CutShort))
     (Some ListTooLong)
 
--- a refused append leaves everything as it was
-abbrev pub unless : {A : Type 0} → Option Refusal → A → A → A
-unless (Some why) was new = was
-unless None was new = new
-
 -- some bytes in the place of those that stood in a buffer from an offset on
 abbrev pub overwritten : List ℕ → ℕ → List ℕ → List ℕ
 overwritten buffer at new = take at buffer ++ new ++ drop (at + length new) buffer

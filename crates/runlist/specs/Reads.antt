@@ -10,6 +10,7 @@
 --   NotRead          why a list has no commands to give
 use Rattle.std.specs.Prelude.{◌≡◌, ℕ, Bool, cond, List, [], ◌∷◌, length, take, drop, Some, None, Ok, Err, Option, Result, nat_le}
 use Rattle.std.specs.Borrow.{Bor}
+use Rattle.refusal.specs.Answers.{replied}
 use Rattle.refusal.specs.declared.Refusal.{Refusal}
 use Rattle.refusal.specs.declared.Refusal.TheVariants.{CutShort}
 use Rattle.runlist.specs.declared.command.Command.{Command}
@@ -21,11 +22,6 @@ use Rattle.runlist.specs.declared.lists.ReadError.TheVariants.{Refused, Memory}
 use Rattle.runlist.specs.Format.{Item, item}
 use Rattle.runlist.specs.Laws.{items_of}
 use Rattle.runlist.specs.Lists.{Next, refuse, command, Place, Reading, read_on, read_list, ended_by, too_long, write_list}
-
--- a refusal, or how many
-abbrev pub ended_or : Option RefusedAt → ℕ → Result ℕ RefusedAt
-ended_or (Some e) count = Err e
-ended_or None count = Ok count
 
 abbrev pub cut_out : Result (Bor (List ℕ)) Refusal → Result (List ℕ) Refusal
 cut_out (Ok bytes) = Ok bytes.now
@@ -83,7 +79,7 @@ pub record Step (before : Reading) (gave : Given) (after : Reading) : Type 0 whe
 
 -- whether a list is accepted: how many items it has, or the refusal that ends it
 abbrev pub accepted : Reading → Result ℕ RefusedAt
-accepted r = ended_or r.ended (length r.given)
+accepted r = replied r.ended (length r.given)
 
 -- these are the items of an accepted list, and written again they are the list, byte for byte
 pub record Commands (list : List ℕ) (is : List Item) : Type 0 where

@@ -2,7 +2,7 @@
 ghost use Rattle.std.specs.Prelude.{◌≡◌, length, Some};
 ghost use Rattle.runlist.specs.Format.{item, number, operands_of, width_of};
 
-#[derive(Clone, Copy)]
+#[derive(Clone, Copy, PartialEq, Eq, Debug)]
 pub enum Command<'a> {
     Open(&'a [u8]),
     Request(&'a [u8]),
@@ -121,60 +121,38 @@ impl<'a> Command<'a> {
     pub fn operands(self) -> Option<Operands>
         ensures { result ≡ operands_of self.entry }
     {
-        match self {
-            Command::Open(b) if b.len() == 4 => Some(Operands::Open {
-                clusters: b[0],
-                nodes: b[1],
-                rule: b[2],
-                store: b[3],
-            }),
-            Command::Request(b) if b.len() == 2 => Some(Operands::Request {
-                cluster: b[0],
-                rank: b[1],
-            }),
-            Command::Answer(b) if b.len() == 10 => Some(Operands::Answer {
-                cluster: b[0],
-                rank: b[1],
-                word: eight(&b[2..10]),
-            }),
-            Command::Send(b) if b.len() == 10 => Some(Operands::Send {
-                from: b[0],
-                to: b[1],
-                word: eight(&b[2..10]),
-            }),
-            Command::Arrive(b) if b.len() == 5 => Some(Operands::Arrive {
-                id: four(&b[0..4]),
-                rank: b[4],
-            }),
-            Command::Fault(b) if b.len() == 1 => Some(Operands::Fault { cluster: b[0] }),
-            Command::Alert(b) if b.len() == 2 => Some(Operands::Alert {
-                from: b[0],
-                to: b[1],
-            }),
-            Command::Resume(b) if b.len() == 0 => Some(Operands::Resume),
-            Command::Trial(b) if b.len() == 1 => Some(Operands::Trial { cluster: b[0] }),
-            Command::Collect(b) if b.len() == 0 => Some(Operands::Collect),
-            Command::Read(b) if b.len() == 5 => Some(Operands::Read {
-                cluster: b[0],
-                number: four(&b[1..5]),
-            }),
-            _ => None,
-        }
+        Some(match self {
+            Command::Open(&[clusters, nodes, rule, store]) => Operands::Open {
+                clusters,
+                nodes,
+                rule,
+                store,
+            },
+            Command::Request(&[cluster, rank]) => Operands::Request { cluster, rank },
+            Command::Answer(&[cluster, rank, ref word @ ..]) => Operands::Answer {
+                cluster,
+                rank,
+                word: u64::from_be_bytes(word.try_into().ok()?),
+            },
+            Command::Send(&[from, to, ref word @ ..]) => Operands::Send {
+                from,
+                to,
+                word: u64::from_be_bytes(word.try_into().ok()?),
+            },
+            Command::Arrive(&[ref id @ .., rank]) => Operands::Arrive {
+                id: u32::from_be_bytes(id.try_into().ok()?),
+                rank,
+            },
+            Command::Fault(&[cluster]) => Operands::Fault { cluster },
+            Command::Alert(&[from, to]) => Operands::Alert { from, to },
+            Command::Resume(&[]) => Operands::Resume,
+            Command::Trial(&[cluster]) => Operands::Trial { cluster },
+            Command::Collect(&[]) => Operands::Collect,
+            Command::Read(&[cluster, ref number @ ..]) => Operands::Read {
+                cluster,
+                number: u32::from_be_bytes(number.try_into().ok()?),
+            },
+            _ => return None,
+        })
     }
-}
-
-fn four(bytes: &[u8]) -> u32
-    requires { length bytes.now ≡ 4 }
-    ensures { result ≡ number bytes.now }
-{
-    u32::from_be_bytes([bytes[0], bytes[1], bytes[2], bytes[3]])
-}
-
-fn eight(bytes: &[u8]) -> u64
-    requires { length bytes.now ≡ 8 }
-    ensures { result ≡ number bytes.now }
-{
-    u64::from_be_bytes([
-        bytes[0], bytes[1], bytes[2], bytes[3], bytes[4], bytes[5], bytes[6], bytes[7],
-    ])
 }

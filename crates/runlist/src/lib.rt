@@ -5,6 +5,7 @@
 mod command;
 mod lists;
 mod reader;
+mod words;
 mod writer;
 
 pub use command::{Command, Operands};

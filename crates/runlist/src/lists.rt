@@ -16,16 +16,11 @@ use std::alloc::{AllocFailed, Global};
 pub fn accept(list: &[u8]) -> Result<usize, RefusedAt>
     ensures { result ≡ accepted (read_list list.now) }
 {
-    let mut count = 0;
-    for read in Reader::new(list) {
-        read?;
-        count += 1;
-    }
-    Ok(count)
+    Reader::new(list).try_fold(0, |count, read| read.map(|_| count + 1))
 }
 
 // Why a list has no commands to give.
-#[derive(Clone, Copy, Debug)]
+#[derive(Clone, Copy, PartialEq, Eq, Debug)]
 pub enum ReadError {
     Refused(RefusedAt),
     Memory,
@@ -47,42 +42,15 @@ impl<T: Drop> From<AllocFailed<T>> for ReadError {
     }
 }
 
-// The commands that a reader has still to give.
-fn gather<'a>(heap: Global, reader: Reader<'a>) -> Result<Vec<Command<'a>>, ReadError>
-    ensures { (list : List ℕ) → to_come reader.entry ≡ read_list list → MatchResult result (λ v. Commands list (map item v.items)) (λ e. NotRead list e) }
-{
-    let mut commands = Vec::new(heap);
-    for read in reader {
-        commands.push(read?.command)?;
-    }
-    Ok(commands)
-}
-
 // The commands of an accepted list.
 pub fn read_list<'a>(heap: Global, list: &'a [u8]) -> Result<Vec<Command<'a>>, ReadError>
     ensures { MatchResult result (λ v. Commands list.now (map item v.items)) (λ e. NotRead list.now e) }
 {
-    gather(heap, Reader::new(list))
-}
-
-// Appends commands to an empty list, up to the first that is refused.
-fn append_all(writer: &mut Writer<'_>, commands: &[Command<'_>]) -> Result<usize, RefusedAt>
-    requires { writer.old.len ≡ 0 }
-    ensures answer { result ≡ written (write_list (length writer.old.buffer.now) (map item commands.now)) }
-    ensures after { writer.new.buffer.now ≡ overwritten writer.old.buffer.now 0 (write_list (length writer.old.buffer.now) (map item commands.now)).wrote }
-    ensures lent { writer.new.buffer.ghost_name ≡ writer.old.buffer.ghost_name }
-    ensures back { IfOk result (λ n. read_list (take n writer.new.buffer.now) ≡ whole_of (map item commands.now)) }
-    ensures law { RoundTrip }
-{
-    for command in commands {
-        if let Err(why) = writer.append(*command) {
-            return Err(RefusedAt {
-                why,
-                offset: writer.len(),
-            });
-        }
+    let mut commands = Vec::new(heap);
+    for read in Reader::new(list) {
+        commands.push(read?.command)?;
     }
-    Ok(writer.len())
+    Ok(commands)
 }
 
 // Writes a whole list, up to the first command that is refused.
@@ -93,5 +61,11 @@ pub fn write_list(commands: &[Command<'_>], buffer: &mut [u8]) -> Result<usize, 
     ensures law { RoundTrip }
 {
     let mut writer = Writer::new(buffer);
-    append_all(&mut writer, commands)
+    for command in commands {
+        let offset = writer.len();
+        writer
+            .append(*command)
+            .map_err(|why| RefusedAt { why, offset })?;
+    }
+    Ok(writer.len())
 }

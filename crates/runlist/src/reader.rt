@@ -16,7 +16,7 @@ pub struct RefusedAt {
 }
 
 // A command with the offset of its letter.
-#[derive(Clone, Copy)]
+#[derive(Clone, Copy, PartialEq, Eq, Debug)]
 pub struct Placed<'a> {
     pub offset: usize,
     pub command: Command<'a>,

@@ -1,7 +1,8 @@
 // What a reader gives, and where a list is refused.
 
-use runlist::{Operands, Reader, accept};
+use runlist::{Operands, Reader, RefusedAt, accept};
 use std::alloc::{AllocError, Global};
+use std::iter;
 use std::test::Fail;
 
 // Each letter with the number of its operand bytes.
@@ -19,50 +20,62 @@ const LETTERS: [(u8, usize); 11] = [
     (b'W', 5),
 ];
 
-// 0 and the number of commands, or the refusal's number and its offset.
-fn verdict(list: &[u8]) -> (u8, usize) {
-    match accept(list) {
-        Ok(count) => (0, count),
-        Err(e) => (e.why.number(), e.offset),
-    }
+// A refusal's number and its offset.
+fn by_number(refused: RefusedAt) -> (u8, usize) {
+    (refused.why.number(), refused.offset)
+}
+
+// How many commands the list has, or its refusal by number.
+fn verdict(list: &[u8]) -> Result<usize, (u8, usize)> {
+    accept(list).map_err(by_number)
 }
 
 // Open, then a letter with so many operand bytes.
 fn opened(heap: Global, letter: u8, operands: usize) -> Result<Vec<u8>, AllocError> {
     let mut list = Vec::from_slice(heap, b"O\x02\x01NS")?;
     list.push(letter)?;
-    for _ in 0..operands {
-        list.push(0)?;
-    }
+    list.extend(iter::repeat_n(0, operands))?;
     Ok(list)
 }
 
 #[test]
 fn short_lists(rt: HostRuntime) {
-    assert_eq!(rt; verdict(b""), (0, 0), "the empty list is accepted");
-    assert_eq!(rt; verdict(b"O\x02\x01NS"), (0, 1));
+    assert_eq!(rt; verdict(b""), Ok(0), "the empty list is accepted");
+    assert_eq!(rt; verdict(b"O\x02\x01NS"), Ok(1));
     assert_eq!(rt;
         verdict(b"O\x00\xff??"),
-        (0, 1),
+        Ok(1),
         "a reader does not judge sizes"
     );
-    assert_eq!(rt; verdict(b"Q"), (2, 0), "cut short before open is missed");
+    assert_eq!(rt;
+        verdict(b"Q"),
+        Err((2, 0)),
+        "cut short before open is missed"
+    );
     assert_eq!(rt;
         verdict(b"Q\x00\x00"),
-        (3, 0),
+        Err((3, 0)),
         "the first command is not open"
     );
-    assert_eq!(rt; verdict(b"G"), (3, 0));
-    assert_eq!(rt; verdict(b"x"), (1, 0));
-    assert_eq!(rt; verdict(b"o\x02\x01NS"), (1, 0), "letters are capitals");
-    assert_eq!(rt; verdict(b"O\x02\x01NSO\x02\x01NS"), (3, 5), "open again");
+    assert_eq!(rt; verdict(b"G"), Err((3, 0)));
+    assert_eq!(rt; verdict(b"x"), Err((1, 0)));
+    assert_eq!(rt;
+        verdict(b"o\x02\x01NS"),
+        Err((1, 0)),
+        "letters are capitals"
+    );
+    assert_eq!(rt;
+        verdict(b"O\x02\x01NSO\x02\x01NS"),
+        Err((3, 5)),
+        "open again"
+    );
     assert_eq!(rt;
         verdict(b"O\x02\x01NSO\x02\x01N"),
-        (2, 5),
+        Err((2, 5)),
         "a second open, cut short"
     );
-    assert_eq!(rt; verdict(b"O\x02\x01NSGG!"), (1, 7));
-    assert_eq!(rt; verdict(b"O\x02\x01NSGRF"), (2, 7));
+    assert_eq!(rt; verdict(b"O\x02\x01NSGG!"), Err((1, 7)));
+    assert_eq!(rt; verdict(b"O\x02\x01NSGRF"), Err((2, 7)));
 }
 
 #[test]
@@ -70,10 +83,10 @@ fn every_letter_cut_at_every_length(rt: HostRuntime) -> Result<(), Fail> {
     for (letter, width) in LETTERS {
         for operands in 0..width {
             let list = opened(rt.alloc(), letter, operands)?;
-            assert_eq!(rt; verdict(list.as_slice()), (2, 5), "cut short");
+            assert_eq!(rt; verdict(list.as_slice()), Err((2, 5)), "cut short");
         }
         let list = opened(rt.alloc(), letter, width)?;
-        let expected = if letter == b'O' { (3, 5) } else { (0, 2) };
+        let expected = if letter == b'O' { Err((3, 5)) } else { Ok(2) };
         assert_eq!(rt; verdict(list.as_slice()), expected, "whole");
     }
     Ok(())
@@ -81,24 +94,20 @@ fn every_letter_cut_at_every_length(rt: HostRuntime) -> Result<(), Fail> {
 
 #[test]
 fn open_cut_at_every_length(rt: HostRuntime) {
-    assert_eq!(rt; verdict(b"O"), (2, 0));
-    assert_eq!(rt; verdict(b"O\x02"), (2, 0));
-    assert_eq!(rt; verdict(b"O\x02\x01"), (2, 0));
-    assert_eq!(rt; verdict(b"O\x02\x01N"), (2, 0));
+    assert_eq!(rt; verdict(b"O"), Err((2, 0)));
+    assert_eq!(rt; verdict(b"O\x02"), Err((2, 0)));
+    assert_eq!(rt; verdict(b"O\x02\x01"), Err((2, 0)));
+    assert_eq!(rt; verdict(b"O\x02\x01N"), Err((2, 0)));
 }
 
 // Every byte that is no letter of a command is refused by 1, first and later.
 #[test]
 fn unknown_letters(rt: HostRuntime) -> Result<(), Fail> {
     for letter in 0..=255u8 {
-        let mut known = false;
-        for (l, _) in LETTERS {
-            known = known || l == letter;
-        }
-        if !known {
+        if !LETTERS.iter().any(|(known, _)| *known == letter) {
             let list = opened(rt.alloc(), letter, 0)?;
-            assert_eq!(rt; verdict(list.as_slice()), (1, 5));
-            assert_eq!(rt; verdict(&[letter]), (1, 0));
+            assert_eq!(rt; verdict(list.as_slice()), Err((1, 5)));
+            assert_eq!(rt; verdict(&[letter]), Err((1, 0)));
         }
     }
     Ok(())
@@ -107,20 +116,16 @@ fn unknown_letters(rt: HostRuntime) -> Result<(), Fail> {
 #[test]
 fn longest_list(rt: HostRuntime) -> Result<(), Fail> {
     let mut list = Vec::from_slice(rt.alloc(), b"O\x02\x01NS")?;
-    for _ in 0..65_531u32 {
-        list.push(b'G')?;
-    }
+    list.resize(65_536, b'G')?;
     assert_eq!(rt; list.len(), 65_536);
-    assert_eq!(rt; verdict(list.as_slice()), (0, 65_532));
+    assert_eq!(rt; verdict(list.as_slice()), Ok(65_532));
     list.push(b'G')?;
-    assert_eq!(rt; verdict(list.as_slice()), (8, 0), "65,537 bytes");
+    assert_eq!(rt; verdict(list.as_slice()), Err((8, 0)), "65,537 bytes");
     list.clear();
-    for _ in 0..65_537u32 {
-        list.push(b'x')?;
-    }
+    list.resize(65_537, b'x')?;
     assert_eq!(rt;
         verdict(list.as_slice()),
-        (8, 0),
+        Err((8, 0)),
         "too long comes before an unknown letter"
     );
     Ok(())
@@ -133,57 +138,44 @@ fn operands_and_offsets(rt: HostRuntime) -> Result<(), Fail> {
     let mut offsets = Vec::new(rt.alloc());
     let mut operands = Vec::new(rt.alloc());
     for read in Reader::new(list) {
-        let placed = read.ok().ok_or("refused")?;
+        let placed = read?;
         offsets.push(placed.offset)?;
         operands.push(placed.command.operands().ok_or("width")?)?;
     }
     assert_eq!(rt; offsets.as_slice(), [0, 5, 16, 22, 28].as_slice());
-    assert!(rt; operands.len() == 5);
-    assert_eq!(rt;
-        operands[0],
+    let expected = [
         Operands::Open {
             clusters: 8,
             nodes: 32,
             rule: b'E',
             store: b'S',
-        }
-    );
-    assert_eq!(rt;
-        operands[1],
+        },
         Operands::Send {
             from: 0,
             to: 1,
             word: 0x0123_4567_89ab_cdef,
-        }
-    );
-    assert_eq!(rt;
-        operands[2],
+        },
         Operands::Arrive {
             id: 1_000_000,
             rank: 31,
-        }
-    );
-    assert_eq!(rt;
-        operands[3],
+        },
         Operands::Read {
             cluster: 7,
             number: 65_538,
-        }
-    );
-    assert_eq!(rt; operands[4], Operands::Resume);
+        },
+        Operands::Resume,
+    ];
+    assert_eq!(rt; operands.as_slice(), expected.as_slice());
     Ok(())
 }
 
 // After a refusal a reader gives nothing more.
 #[test]
-fn nothing_after_a_refusal(rt: HostRuntime) -> Result<(), Fail> {
+fn nothing_after_a_refusal(rt: HostRuntime) {
     let mut reader = Reader::new(b"O\x02\x01NSxGG");
     assert!(rt; reader.next().is_some());
-    match reader.next() {
-        Some(Err(e)) => assert_eq!(rt; (e.why.number(), e.offset), (1, 5)),
-        _ => return Err(Fail::new("not refused")),
-    }
+    let refused = reader.next().map(|read| read.map_err(by_number));
+    assert_eq!(rt; refused, Some(Err((1, 5))));
     assert!(rt; reader.next().is_none());
     assert!(rt; reader.next().is_none());
-    Ok(())
 }

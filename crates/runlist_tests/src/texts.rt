@@ -1,6 +1,6 @@
 // Refusals by number, layer and words, and the lines of a listing.
 use refusal::{Refusal, StoreRefusal};
-use runlist::{Command, Placed, RefusedAt};
+use runlist::{Command, Placed, ReadError, RefusedAt};
 use std::test::Fail;
 use wording::{line, verdict};
 
@@ -113,6 +113,24 @@ fn verdicts(rt: HostRuntime) -> Result<(), Fail> {
     assert_eq!(rt;
         verdict(heap, Err(refused), 20)?.as_str(),
         "refused by 2 (command cut short) at offset 17"
+    );
+    Ok(())
+}
+
+#[test]
+fn read_errors(rt: HostRuntime) -> Result<(), Fail> {
+    let heap = rt.alloc();
+    let refused = ReadError::Refused(RefusedAt {
+        why: Refusal::UnknownLetter,
+        offset: 5,
+    });
+    assert_eq!(rt;
+        format!(in heap; "{refused}")?.as_str(),
+        "refused by 1 (unknown letter) at offset 5"
+    );
+    assert_eq!(rt;
+        format!(in heap; "{}", ReadError::Memory)?.as_str(),
+        "out of memory"
     );
     Ok(())
 }

@@ -52,25 +52,22 @@ fn appends_and_refusals(rt: HostRuntime) {
 }
 
 #[test]
-fn one_byte_short(rt: HostRuntime) -> Result<(), Fail> {
+fn one_byte_short(rt: HostRuntime) {
     let mut buffer = [0xeeu8; 4];
-    let refused = write_list(&[OPEN], &mut buffer);
-    match refused {
-        Err(e) => assert_eq!(rt; (e.why.number(), e.offset), (23, 0)),
-        Ok(_) => return Err(Fail::new("not refused")),
-    }
+    let written = write_list(&[OPEN], &mut buffer);
+    assert_eq!(rt;
+        written.map_err(|e| (e.why.number(), e.offset)),
+        Err((23, 0))
+    );
     assert_eq!(rt;
         buffer,
         [0xee, 0xee, 0xee, 0xee],
         "nothing is written of a command that does not fit"
     );
     let mut room = [0xeeu8; 6];
-    match write_list(&[OPEN, Command::Collect(b"")], &mut room) {
-        Ok(len) => assert_eq!(rt; len, 6),
-        Err(_) => return Err(Fail::new("refused")),
-    }
+    let written = write_list(&[OPEN, Command::Collect(b"")], &mut room);
+    assert_eq!(rt; written, Ok(6));
     assert_eq!(rt; room, [b'O', 2, 1, b'N', b'S', b'G']);
-    Ok(())
 }
 
 // Too long comes before a wrong width, and a list may fill its 65,536 bytes.
@@ -102,10 +99,7 @@ fn there_and_back(rt: HostRuntime) -> Result<(), Fail> {
     let commands = read_list(rt.alloc(), list)?;
     assert_eq!(rt; commands.len(), 5);
     let mut buffer = [0u8; 25];
-    match write_list(commands.as_slice(), &mut buffer) {
-        Ok(len) => assert_eq!(rt; len, 25),
-        Err(_) => return Err(Fail::new("refused")),
-    }
+    assert_eq!(rt; write_list(commands.as_slice(), &mut buffer), Ok(25));
     assert_eq!(rt; buffer.as_slice(), list.as_slice());
     Ok(())
 }

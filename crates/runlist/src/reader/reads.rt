@@ -13,10 +13,7 @@ use refusal::Refusal;
 fn operand_bytes(rest: &[u8], width: usize) -> Result<&[u8], Refusal>
     ensures { cut_out result ≡ cut_to width rest.now }
 {
-    if rest.len() < width {
-        return Err(Refusal::CutShort);
-    }
-    Ok(&rest[0..width])
+    rest.get(..width).ok_or(Refusal::CutShort)
 }
 
 // The command of a letter: unknown letters first, then operands that are cut short, then an open that is misplaced.
@@ -60,39 +57,18 @@ impl<'a> Reader<'a> {
         ensures last { IfNone result (Step (to_come self.now) nothing (to_come self.now)) }
     {
         let offset = self.at;
-        let end = self.list.len();
-        if offset == end {
-            return None;
-        }
-        if end > MOST_BYTES {
+        let (letter, rest) = self.list[offset..].split_first()?;
+        if self.list.len() > MOST_BYTES {
             return Some(Err(RefusedAt {
                 why: Refusal::ListTooLong,
                 offset: 0,
             }));
         }
-        match front(self.opened, self.list[offset], &self.list[offset + 1..end]) {
-            Ok(command) => Some(Ok(Placed { offset, command })),
-            Err(why) => Some(Err(RefusedAt { why, offset })),
-        }
-    }
-
-    // Goes on behind the command in front.
-    fn pass(&mut self, front: Placed<'a>)
-        requires { placed (place front) ≡ first_of (to_come self.old).given (to_come self.old).ended }
-        ensures step { Step (to_come self.old) (placed (place front.entry)) (to_come self.new) }
-        ensures falls { length self.new.list.now - self.new.at < length self.old.list.now - self.old.at }
-    {
-        self.at = front.offset + 1 + front.command.bytes().len();
-        self.opened = true;
-    }
-
-    // Nothing is read behind a refusal.
-    fn stop(&mut self, refused: RefusedAt)
-        requires { refusal refused ≡ first_of (to_come self.old).given (to_come self.old).ended }
-        ensures step { Step (to_come self.old) (refusal refused) (to_come self.new) }
-        ensures falls { length self.new.list.now - self.new.at < length self.old.list.now - self.old.at }
-    {
-        self.at = self.list.len();
+        Some(
+            front(self.opened, *letter, rest)
+                .map(|command| Placed { offset, command })
+                .map_err(|why| RefusedAt { why, offset }),
+        )
     }
 }
 
@@ -104,12 +80,16 @@ impl<'a> Iterator for Reader<'a> {
     ghost remaining = { λ s. at_most (length s.list.now - s.at) };
 
     fn next(&mut self) -> Option<Result<Placed<'a>, RefusedAt>> {
-        let found = self.found();
-        match found {
-            Some(Ok(placed)) => self.pass(placed),
-            Some(Err(refused)) => self.stop(refused),
-            None => {}
+        match self.found()? {
+            Ok(placed) => {
+                self.at = placed.offset + 1 + placed.command.bytes().len();
+                self.opened = true;
+                Some(Ok(placed))
+            }
+            Err(refused) => {
+                self.at = self.list.len(); // nothing is read behind a refusal
+                Some(Err(refused))
+            }
         }
-        found
     }
 }

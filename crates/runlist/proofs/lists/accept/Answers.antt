@@ -1,25 +1,20 @@
-use Rattle.std.proofs.Common.{length, Err, ap, ◌∙◌, arith}
-use Rattle.std.proofs.lemmas.Result.{err_from_is_err_and}
-use Rattle.runlist.specs.Reads.{place}
-use Rattle.runlist.proofs.Reading.{counted_more, counted_refused, counted_all, gave_item, few_items, step_of}
+use Rattle.std.proofs.Common.{◌+◌, ◌≤◌, Some, Ok, length, rules}
+use Rattle.runlist.specs.declared.reader.Placed.{Placed}
+use Rattle.runlist.specs.Lists.{read_list}
+use Rattle.runlist.specs.Reads.{to_come, Step, given}
+use Rattle.runlist.proofs.Reading.{counted_turns, counted_none, counted_room, counted_end}
 use Rattle.runlist.proofs.lists.accept.Goals as goal
 
-pub returns-in_err-read : goal.returns-in_err-read
-returns-in_err-read c =
-    let p = err_from_is_err_and c.from_residual.result c.from_residual.ensures.1 in
-    let s = step_of c.in_err-read.was c.in-Some.ensures.steps in
-    p.1 ∙ ap Err p.2 ∙ counted_refused _ _ _ c.loop-read.count c.in_err-read.field-0.0 c.loop-read.invariant.2 s
-
-pub overflow_add-count : goal.overflow_add-count
-overflow_add-count c =
-    let s = step_of c.in_ok-read.was c.in-Some.ensures.steps in
-    let g = gave_item _ _ (place c.in_ok-read.field-0) s in
-    omega (arith, ap length g.0, c.loop-read.invariant.2.sum, few_items c.args.list.now)
-
-pub loop-read-preserved : goal.loop-read-preserved
-loop-read-preserved c =
-    let s = step_of c.in_ok-read.was c.in-Some.ensures.steps in
-    (tt, tt, counted_more _ _ _ c.loop-read.count (place c.in_ok-read.field-0) c.loop-read.invariant.2 s)
+pub try_fold-requires-clause-callable : goal.try_fold-requires-clause-callable
+try_fold-requires-clause-callable c = record {
+  at = λ xs t q x u y f k.
+      let n = counted_turns _ (λ p. p.1) (λ p x q h. search rules) (λ p e q h. search rules) (read_list c.args.list.now) xs c.new.result t _ q (counted_none c.args.list.now _ c.new.ensures) y f in
+      let room : (p : Placed) → Step (to_come t) (given (Some (Ok p))) (to_come u) → q.1 + 1 ≤ length c.args.list.now = λ p s. counted_room c.args.list.now _ _ q.1 p n s in
+      search rules;
+}
 
 pub returns : goal.returns
-returns c = counted_all _ _ _ c.loop-read.count c.loop-read.invariant.2 c.in-None.ensures.steps
+returns c =
+    let r = c.try_fold.ensures.ran in
+    let n = counted_turns _ (λ p. p.1) (λ p x q h. search rules) (λ p e q h. search rules) (read_list c.args.list.now) r.0 c.new.result r.4.0 _ _ (counted_none c.args.list.now _ c.new.ensures) r.4.1 r.5 in
+    counted_end (read_list c.args.list.now) (to_come r.4.0) _ r.3 c.try_fold.result r.1 _ _ (λ m. search rules) (λ p m. search rules) (λ e m. search rules) n r.4.2 r.6
