@@ -1,19 +1,42 @@
 -- The searches of a restart, one place further on: what is left gives the whole.
-use Rattle.std.proofs.Common.{◌≡◌, ℕ, suc, ◌+◌, ◌<◌, Bool, true, false, cond, ltb, List, [], ◌∷◌, length, get_or, drop, Some, None, Option, sym, refl, ap, ap₂, ◌∙◌, arith}
-use Rattle.std.specs.List.{position, position_or_len}
+use Rattle.std.proofs.Common.{◌≡◌, ℕ, suc, ◌+◌, ◌<◌, Bool, true, false, cond, ltb, List, [], ◌∷◌, length, reverse, get_or, drop, Some, None, Option, sym, refl, ap, ap₂, ◌∙◌, arith}
+use Rattle.std.specs.List.{find, position, position_or_len}
+use Rattle.std.specs.Option.{option_map, option_or}
+use Rattle.std.proofs.lemmas.List.Folds.{find-append}
+use Rattle.std.proofs.lemmas.Grind.{reverse_onto}
 use Rattle.std.proofs.lemmas.List.{at_drop_more}
 use Rattle.std.proofs.lemmas.Bool.{cond-true, lt-ltb}
 use Rattle.store.specs.Table.{both}
 use Rattle.law.specs.declared.Checkpoint.{Checkpoint}
 use Rattle.law.specs.declared.Alerts.{Alerts}
 use Rattle.law.specs.Book.{entry}
+use Rattle.book.specs.Rules.{number_of}
 use Rattle.law.specs.Restarts.{latest, first_true, first_waiting, pair_with}
 
-pub latest_more : (i s p : ℕ) (cs : List Checkpoint) (k : ℕ) (d : Checkpoint) (found next : Option ℕ) → k < length cs →
-    next ≡ cond (both (ltb (get_or cs k d).number p) (ltb (entry (get_or cs k d).row i) s)) (Some (get_or cs k d).number) found →
-    latest i s p (drop (k + 1) cs) next ≡ latest i s p (drop k cs) found
-latest_more i s p cs k d found next h e =
-    ap (latest i s p (drop (k + 1) cs)) e ∙ sym (at_drop_more (λ (z : List Checkpoint). latest i s p z found) cs k d h)
+-- had not heard of what is undone, and is below the place
+abbrev pub before : ℕ → ℕ → ℕ → Checkpoint → Bool
+before i s p c = both (ltb c.number p) (ltb (entry c.row i) s)
+
+-- the last that fits is the first from behind
+one_more : (c : Checkpoint) (a : Option Checkpoint) (t : Bool) (found : Option ℕ) → option_or (option_map number_of (option_or a (cond t (Some c) None))) found ≡ option_or (option_map number_of a) (cond t (Some c.number) found)
+one_more c (Some x) t found = refl
+one_more c None true found = refl
+one_more c None false found = refl
+
+latest_from : (i s p : ℕ) (cs : List Checkpoint) (found : Option ℕ) → option_or (option_map number_of (find (before i s p) (reverse cs))) found ≡ latest i s p cs found
+latest_from i s p [] found = refl
+latest_from i s p (c ∷ cs) found =
+    ap (λ (l : List Checkpoint). option_or (option_map number_of (find (before i s p) l)) found) (reverse_onto cs c [])
+    ∙ ap (λ (o : Option Checkpoint). option_or (option_map number_of o) found) (find-append (before i s p) (reverse cs) (c ∷ []))
+    ∙ one_more c (find (before i s p) (reverse cs)) (before i s p c) found
+    ∙ latest_from i s p cs (cond (before i s p c) (Some c.number) found)
+
+or_none : (o : Option ℕ) → option_or o None ≡ o
+or_none (Some n) = refl
+or_none None = refl
+
+pub latest_found : (i s p : ℕ) (cs : List Checkpoint) → option_map number_of (find (before i s p) (reverse cs)) ≡ latest i s p cs None
+latest_found i s p cs = sym (or_none (option_map number_of (find (before i s p) (reverse cs)))) ∙ latest_from i s p cs None
 
 -- the place that is found, counted from k
 set_from : (k : ℕ) (bs : List Bool) → first_true k bs ≡ cond (ltb (position_or_len (λ b. b) bs) (length bs)) (Some (k + position_or_len (λ b. b) bs)) None

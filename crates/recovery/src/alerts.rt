@@ -34,14 +34,10 @@ fn latest(kept: &[Checkpoint], from: usize, back: u32, place: u32) -> Option<u32
     requires { from < 8 }
     ensures { result ≡ latest from back place kept.now None }
 {
-    // not filter, map and last: the search does not find what last gives, and the library has no lemma on it
-    let mut found = None;
-    for checkpoint in kept {
-        if is_before(checkpoint, from, back, place) {
-            found = Some(checkpoint.number);
-        }
-    }
-    found
+    kept.iter()
+        .rev()
+        .find(|checkpoint| is_before(checkpoint, from, back, place))
+        .map(|checkpoint| checkpoint.number)
 }
 
 // The checkpoint to which an alert from a cluster that went back calls this one, if it does.

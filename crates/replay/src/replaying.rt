@@ -37,13 +37,11 @@ pub fn replay<S: SidedStore, R: ForcingRule>(
 ) -> Result<Replayed<S, R>, ReplayError<S, R>>
     ensures { Outcome R.ForcingRule.says S.Store.model name clusters nodes rule store calls.now result }
 {
-    let mut federation = match Federation::open(name, clusters, nodes, rule, store, heap) {
-        Ok(federation) => federation,
-        Err(why) => return Err(ReplayError::NotOpened(why)),
-    };
-    let mut exchanges = match Vec::with_capacity(heap, calls.len()) {
-        Ok(exchanges) => exchanges,
-        Err(_) => return Err(ReplayError::NoMemory(federation)),
+    let mut federation = Federation::open(name, clusters, nodes, rule, store, heap).map_err(
+        ReplayError::NotOpened,
+    )?;
+    let Ok(mut exchanges) = Vec::with_capacity(heap, calls.len()) else {
+        return Err(ReplayError::NoMemory(federation));
     };
     let held = make_all(&mut federation, calls, &mut exchanges);
     Ok(Replayed {

@@ -1,23 +1,15 @@
--- a checkpoint that fits takes the place of the one found before
-use Rattle.std.proofs.Common.{sym, ◌∙◌}
-use Rattle.std.proofs.lemmas.List.{at_drop_all}
-use Rattle.std.proofs.lemmas.Bool.{cond-true, cond-false}
-use Rattle.law.specs.Restarts.{latest}
-use Rattle.recovery.proofs.Firsts.{latest_more}
+use Rattle.std.proofs.Common.{◌≡◌, reverse, ap, ◌∙◌, rules, tests}
+use Rattle.std.specs.List.{find}
+use Rattle.std.specs.Option.{option_map}
+use Rattle.std.proofs.lemmas.Iterator.Adapters.{YieldsList-from_rev_slice}
+use Rattle.std.proofs.lemmas.Iterator.Search.{find_from_yields_List}
+use Rattle.book.specs.Rules.{number_of}
+use Rattle.recovery.proofs.Firsts.{before, latest_found}
 use Rattle.recovery.proofs.alerts.latest.Goals as goal
-use Rattle.recovery.proofs.alerts.latest.Goals.{then-is_before, else-is_before}
-
-pub loop-checkpoint-preserved : goal.loop-checkpoint-preserved
-loop-checkpoint-preserved c =
-    latest_more c.args.from c.args.back c.args.place c.args.kept.now c.loop-checkpoint.checkpoint-index _ c.loop-checkpoint.found c.if-is_before.found
-    c.loop-checkpoint-test.true
-    (elim c.if-is_before.branch [
-      | then-is_before w ↦ w.found-is ∙ sym (cond-true _ _ _ (sym c.is_before.ensures ∙ w.if-is_before.true))
-      | else-is_before w ↦ w.found-is ∙ sym (cond-false _ _ _ (sym c.is_before.ensures ∙ w.if-is_before.false))
-    ])
-    ∙ c.loop-checkpoint.invariant
 
 pub returns : goal.returns
 returns c =
-    sym (at_drop_all (λ z. latest c.args.from c.args.back c.args.place z c.loop-checkpoint.found) c.args.kept.now c.loop-checkpoint.checkpoint-index c.loop-checkpoint-test.false)
-    ∙ c.loop-checkpoint.invariant
+    let found : option_map (λ x. x.now) c.find.result ≡ find (before c.args.from c.args.back c.args.place) (reverse c.args.kept.now) =
+    find_from_yields_List (before c.args.from c.args.back c.args.place) _ _ c.find.result c.find.ensures.ran (YieldsList-from_rev_slice c.args.kept.now cc) (λ x b q k. search (rules, tests)) in
+    let told : c.map.result ≡ option_map number_of (option_map (λ x. x.now) c.find.result) = search rules in
+    told ∙ ap (option_map number_of) found ∙ latest_found c.args.from c.args.back c.args.place c.args.kept.now
