@@ -63,6 +63,7 @@ fn row_back(cluster: &Cluster, place: u32) -> [u32; 8]
     if place == STAYS {
         return cluster.row;
     }
+    // not map_or: the search leaves what it gives open
     match checkpoint_at(&cluster.kept, place) {
         Some(checkpoint) => checkpoint.row,
         None => cluster.row,

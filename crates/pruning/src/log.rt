@@ -12,10 +12,9 @@ use law::Logged;
 fn is_needed(logged: &Logged, bounds: &[u32; 8]) -> bool
     ensures { result ≡ received_from (slice_index bounds.now logged.now.message.to) logged.now.receipt }
 {
-    match logged.receipt {
-        Some(receipt) => entry(bounds, logged.message.to) <= receipt,
-        None => true,
-    }
+    logged
+        .receipt
+        .is_none_or(|receipt| entry(bounds, logged.message.to) <= receipt)
 }
 
 // The log without the messages that no later fault can need.

@@ -56,6 +56,7 @@ pub fn bounds(restart: &mut Option<Restart>, clusters: &[Cluster]) -> [u32; 8]
     ensures same { restart.new ≡ restart.old }
 {
     let mut low = [STAYS; CLUSTERS];
+    // each cluster fails in turn, by its position
     for failed in 0..clusters.len() {
         // by way of a name: no proof covers an array that a call writes back over its own argument
         let next = lower_of(low, trial(restart, clusters, failed));

@@ -23,7 +23,7 @@ pub enum StoreRefusal {
     WordCount,
     Held,
     NotHeld,
-    // the side that is full, counted from 1; 0 where the store has no sides
+    // the side that is full, counted from 1; 0 where the store has no sides, as an answer's one byte for it has it
     Full(u8),
     NoSide,
     SideOut,

@@ -22,6 +22,7 @@ pub enum Operands {
     Open {
         clusters: u8,
         nodes: u8,
+        // bytes and no enums: a list reads back as it was written, whatever rule and store it names
         rule: u8,
         store: u8,
     },
