@@ -56,8 +56,8 @@ returns c =
     let at-to : c.from-to.result ≡ it.message.to = c.from-to.ensures in
     let receiver = group_at (vec_items b.clusters) to c.index-2.result.now (omega arith) c.index-2.ensures in
     λ m. c.receive.ensures m
-          ∙ ap (λ l. with_log (view c.hear.new.self m) (map (received (message_at (vec_items l) place).id (entry c.index-2.result.now.row to)) (vec_items l))) c.hear.ensures.log
-          ∙ together (view b m) (view c.hear.new.self m) M to c.from.result it.message.number (entry c.index-2.result.now.row to)
-          to_is (c.from.ensures ∙ ap (λ (x : Message). x.from) is) (ap (λ (x : Message). x.number) is)
-          (ap (λ (g : Group). entry g.row to) receiver ∙ ap (λ (t : ℕ). number (view b m) t) to_is)
-          (c.hear.ensures.after m)
+    ∙ ap (λ l. with_log (view c.hear.new.self m) (map (received (message_at (vec_items l) place).id (entry c.index-2.result.now.row to)) (vec_items l))) c.hear.ensures.log
+    ∙ together (view b m) (view c.hear.new.self m) M to c.from.result it.message.number (entry c.index-2.result.now.row to)
+    to_is (c.from.ensures ∙ ap (λ (x : Message). x.from) is) (ap (λ (x : Message). x.number) is)
+    (ap (λ (g : Group). entry g.row to) receiver ∙ ap (λ (t : ℕ). number (view b m) t) to_is)
+    (c.hear.ensures.after m)
