@@ -63,7 +63,7 @@ fn row_back(cluster: &Cluster, place: u32) -> [u32; 8]
     if place == STAYS {
         return cluster.row;
     }
-    // not map_or: the search leaves what it gives open
+    // not map_or: the search does not find which row it gives
     match checkpoint_at(&cluster.kept, place) {
         Some(checkpoint) => checkpoint.row,
         None => cluster.row,

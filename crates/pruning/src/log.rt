@@ -73,6 +73,7 @@ pub fn again(log: &[Logged], places: &[u32; 8]) -> ArrayVec<u32, 128>
     requires { length log.now ≤ 128 }
     ensures { result.items ≡ go_again places.now log.now }
 {
+    // not extend: it can fail where a vector is full, which this one never is
     let mut ids = ArrayVec::new();
     for logged in log {
         if goes_again(logged, places) {

@@ -32,6 +32,7 @@ fn new_clusters(count: usize, heap: Global) -> Result<Vec<Cluster>, AllocError>
     requires { count ≤ 8 }
     ensures { IfOk result (λ cs. (map group cs.items ≡ first_clusters count) × (placed 0 cs.items ≡ true)) }
 {
+    // a chain would collect results into a result within another, which is no plainer
     let mut clusters = Vec::new(heap);
     // a cluster is made for its position, so the positions are what the loop goes over
     for i in 0..count {
