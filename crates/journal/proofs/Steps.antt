@@ -1,26 +1,26 @@
 -- The four moves of a journal: a record more, a row forgotten, a drop noted, and all records moved together. Each
 -- is told by the records and the held places after it; that it leaves a sound journal follows from those.
-use Rattle.std.proofs.Common.{◌≡◌, ℕ, ◌+◌, ◌*◌, ◌<◌, ◌≤◌, cond, leb, List, [], ◌∷◌, ◌++◌, map, length, take, drop, None, vec_items, vec_len, sym, refl, ap, ◌∙◌, subst, arith}
+use Rattle.std.proofs.Common.{◌≡◌, ℕ, ◌+◌, ◌*◌, ◌<◌, ◌≤◌, cond, leb, List, [], ◌∷◌, ◌++◌, map, length, get_or, take, drop, Some, None, vec_items, vec_len, sym, refl, ap, ◌∙◌, subst, arith}
 use Rattle.std.proofs.lemmas.Bool.{leb-true, cond-true, cond-false, cond_both}
 use Rattle.std.proofs.lemmas.List.{append-nil, map-append, length-map, length-take-le, take-append-drop, take_all, drop_at, with_items_is}
 use Rattle.std.specs.Vec.{with_items}
 use Rattle.std.specs.List.{remove as removed}
-use Rattle.store.specs.Table.{TableRow, insert, remove, keep_refusal, keep_model, drop_model}
+use Rattle.store.specs.Table.{TableRow, lookup, insert, remove, keep_refusal, keep_model, drop_model}
 use Rattle.store.specs.Formed.{Formed}
 use Rattle.store.proofs.Orders.{both_true}
 use Rattle.store.proofs.Edits.{map_removed}
-use Rattle.store.proofs.Tables.{new_row, allowed, keep_allowed, formed_keep, formed-drop}
+use Rattle.store.proofs.Tables.{remove_none, new_row, allowed, keep_allowed, formed_keep, formed-drop}
 use Rattle.records.specs.declared.Held.{Held}
 use Rattle.records.specs.Encode.{keep_bytes, rows_bytes, words_bytes, words_in}
 use Rattle.records.specs.Layout.{size_of, part, parts, row_from, row_in, relaid, total, Laid}
-use Rattle.records.specs.Order.{sort_rows}
+use Rattle.records.specs.Order.{first_of, sort_rows}
 use Rattle.records.proofs.Words.{length-words_bytes}
 use Rattle.records.proofs.Ordering.{sort_push}
 use Rattle.journal.specs.declared.Journal.{Journal}
 use Rattle.journal.specs.Places.{table_of, Distinct, Sound}
 use Rattle.journal.specs.State.{records_of, rows_of, journal_model, keep_records}
 use Rattle.journal.proofs.Sorting.{lookup_sort, length_onto, remove_sort, distinct_push, distinct_remove}
-use Rattle.journal.proofs.Holding.{same_rows, same_lie, same_few, same_more, same_relaid, parts_front, parts_rows, total-few, laid-relaid, laid_wider, laid_push, laid_removed, lie_push, lie_removed, few_push, few_removed}
+use Rattle.journal.proofs.Holding.{first_in, same_rows, same_lie, same_few, same_more, same_relaid, parts_front, parts_rows, total-few, laid-relaid, laid_wider, laid_push, laid_removed, lie_push, lie_removed, few_push, few_removed}
 
 -- the same, of bytes and places that are told in other words
 carry : {bs bs' : List ℕ} {e : ℕ} {hs hs' is : List Held} → bs' ≡ bs → hs' ≡ hs → Sound bs e hs is → Sound bs' e hs' is
@@ -175,13 +175,16 @@ held_count j = length-map (vec_items j.held) (row_in (records_of j)) ∙ sym j.h
 pub held_rows : (j : Journal) → length (journal_model j).table ≡ vec_len j.held
 held_rows j = let sorted = length_onto (rows_of j) [] in omega (arith, held_count j)
 
-pub index_count : (j : Journal) → vec_len j.index ≡ vec_len j.held
-index_count j =
-    let shown = ap length (j.sound.shown []) in
-    let sorted = length_onto (map (row_in []) (vec_items j.held)) [] in
-    let held = length-map (vec_items j.held) (row_in []) in
-    let index = length-map (vec_items j.index) (row_in []) in
-    omega (arith, j.held.ok.0, j.index.ok.0)
+-- what the place of the first record under a cluster and number tells of the table and of the rows
+pub found_at : (j : Journal) {slice : List Held} (c n : ℕ) {i : ℕ} → slice ≡ vec_items j.held → Some i ≡ first_of slice c n → (i < length (vec_items j.held)) × ((d : Held) → lookup (journal_model j).table c n ≡ Some (row_in (records_of j) (get_or (vec_items j.held) i d)).words) × (remove (rows_of j) c n ≡ removed (rows_of j) i)
+found_at j {slice} c n {i} shown is =
+    let there = first_in (records_of j) (vec_items j.held) slice c n (Some i) shown is in
+    (there.0, (λ d. lookup_sort (rows_of j) j.sound.distinct c n ∙ there.1 d), there.2)
+
+pub found_none : (j : Journal) {slice : List Held} (c n : ℕ) → slice ≡ vec_items j.held → None ≡ first_of slice c n → (lookup (journal_model j).table c n ≡ None) × (remove (rows_of j) c n ≡ rows_of j)
+found_none j {slice} c n shown is =
+    let none = first_in (records_of j) (vec_items j.held) slice c n None shown is in
+    (lookup_sort (rows_of j) j.sound.distinct c n ∙ none, remove_none (rows_of j) c n none)
 
 -- the test that a journal makes is the one that its records are told by
 keep_fits : (j : Journal) (c n : ℕ) (ws : List ℕ) → leb (length (records_of j) + length (keep_bytes (new_row c n ws))) 16832 ≡ leb (j.used + (7 + 8 * length ws)) 16832

@@ -3,7 +3,7 @@
 use Rattle.std.proofs.Common.{◌≡◌, ℕ, suc, ◌+◌, ◌-◌, ◌<◌, ◌≤◌, List, [], ◌∷◌, ◌++◌, length, get_or, take, drop, set, sym, refl, ap, ◌∙◌, subst, arith}
 use lib.Seq.{paste}
 use Rattle.std.specs.List.{copy_within}
-use Rattle.std.proofs.lemmas.List.{append_assoc, append-nil, length-take-le, length-drop, drop-drop, drop_more, take_more, get_or_at, set_at, take_all, drop_all}
+use Rattle.std.proofs.lemmas.List.{append_assoc, append-nil, length-take-le, length-drop, drop-drop, drop_more, take_more, get_or_at, set_at}
 use Rattle.std.proofs.lemmas.List.Edits.{take-paste, drop-paste, length-paste}
 use Rattle.records.specs.declared.Held.{Held}
 use Rattle.records.specs.Layout.{size_of, part, parts, moved, relaid, total, Laid}
@@ -111,11 +111,3 @@ module _ {b : List ℕ} {hs : List Held} {i : ℕ} {bytes : List ℕ} {held : Li
       (sym (e ∙ ap (paste bytes end (drop (get_or held i d).at bytes)) k))
       (subst (λ (h : Held). Moved b hs (i + 1) (paste bytes end (drop h.at bytes) (size_of h.count)) (set held i (moved h end)) (end + size_of h.count))
       (sym same_record) moved_more)
-
-pub moved_all : {b : List ℕ} {hs : List Held} {i : ℕ} {bytes : List ℕ} {held : List Held} {end : ℕ} → Moved b hs i bytes held end → length hs ≤ i → (end ≡ total hs) × (take end bytes ≡ parts b hs) × (held ≡ relaid 0 hs)
-moved_all {b} {hs} {i} {bytes} {held} {end} m past =
-    let all = take_all i hs past in (
-      m.size ∙ ap total all,
-      m.front ∙ ap (parts b) all,
-      m.done ∙ ap (λ (rest : List Held). relaid 0 (take i hs) ++ rest) (drop_all i hs past) ∙ append-nil (relaid 0 (take i hs)) ∙ ap (relaid 0) all,
-    )

@@ -1,7 +1,7 @@
 -- the place to write never passes the place to read
 use Rattle.std.proofs.Common.{arith}
 use Rattle.records.specs.declared.Held.{Held}
-use Rattle.records.proofs.Compacting.{bounds, moved-next, moved_all}
+use Rattle.records.proofs.Compacting.{bounds, moved-next}
 use Rattle.records.proofs.compact.Goals as goal
 
 abbrev none : Held
@@ -30,8 +30,3 @@ overflow_add-end c =
 pub loop-record-preserved : goal.loop-record-preserved
 loop-record-preserved c =
     moved-next c.loop-record.invariant c.loop-record-test.true none c.copy_within.new.self c.copy_within.ensures.after
-
-pub returns : goal.returns
-returns c =
-    let all = moved_all c.loop-record.invariant c.loop-record-test.false in
-    record { end = all.0; front = all.1; held = all.2 }

@@ -1,6 +1,6 @@
 -- eight bytes more for each word
 use Rattle.std.proofs.Common.{◌≡◌, ◌++◌, length, get_or, take, sym, ap, ◌∙◌, arith}
-use Rattle.std.proofs.lemmas.List.{append_assoc, take_more, take_all}
+use Rattle.std.proofs.lemmas.List.{append_assoc, take_more}
 use Rattle.records.specs.Encode.{be8, words_bytes}
 use Rattle.records.proofs.Words.{words_bytes_push}
 use Rattle.records.proofs.put_words.Goals as goal
@@ -20,12 +20,3 @@ loop-word-preserved c =
           ∙ append_assoc front (words_bytes (take i ws)) (be8 w)
           ∙ ap (λ bs. front ++ bs) (sym (words_bytes_push (take i ws) w) ∙ ap words_bytes (sym (take_more ws i 0 c.loop-word-test.true))),
     )
-
-pub returns : goal.returns
-returns c =
-    let ws = c.args.words.now in
-    record {
-      end = omega arith;
-      front = c.loop-word.invariant.1
-          ∙ ap (λ vs. take c.args.at c.args.bytes.now ++ words_bytes vs) (take_all c.loop-word.word-index ws c.loop-word-test.false);
-    }

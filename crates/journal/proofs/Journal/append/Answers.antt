@@ -1,17 +1,12 @@
 -- there is memory for one more, since fewer than 64 rows are held
 use Rattle.std.proofs.Common.{arith}
-use Rattle.journal.proofs.Steps.{append_step, few_rows, held_count, index_count}
+use Rattle.journal.proofs.Steps.{append_step, few_rows, held_count}
 use Rattle.journal.proofs.Journal.append.Goals as goal
 
 pub push_reserved-requires : goal.push_reserved-requires
 push_reserved-requires c =
     let j = c.args.self.now in
     omega (arith, few_rows j c.args.key.cluster c.args.key.number c.args.words.now c.requires.free, held_count j, j.held_room)
-
-pub insert_ordered-requires : goal.insert_ordered-requires
-insert_ordered-requires c =
-    let j = c.args.self.now in
-    omega (arith, few_rows j c.args.key.cluster c.args.key.number c.args.words.now c.requires.free, held_count j, index_count j, j.index_room)
 
 pub invariant_of-self-clause-sound : goal.invariant_of-self-clause-sound
 invariant_of-self-clause-sound c =
