@@ -9,7 +9,7 @@ use Rattle.journal.proofs.Steps.{forget_step, found_at, found_none, held_most}
 use Rattle.journal.proofs.Journal.forget.Goals as goal
 
 abbrev none : Held
-none = record { cluster = 0; number = 0; at = 0; count = 0 }
+none = record { key = record { cluster = 0; number = 0 }; at = 0; count = 0 }
 
 pub returns-in_default-clause-answer : goal.returns-in_default-clause-answer
 returns-in_default-clause-answer c =
