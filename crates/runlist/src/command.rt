@@ -1,6 +1,6 @@
 // One command of a run list: its letter as a case, its operand bytes as they lie in the list.
-ghost use Rattle.std.specs.Prelude.{◌≡◌, length, Some};
-ghost use Rattle.runlist.specs.Format.{item, number, operands_of, width_of};
+ghost use Rattle.std.specs.Prelude.{◌≡◌, Some};
+ghost use Rattle.runlist.specs.Format.{item, operands_of, width_of};
 
 #[derive(Clone, Copy, PartialEq, Eq, Debug)]
 pub enum Command<'a> {

@@ -1,9 +1,9 @@
 // Whole lists: whether one is accepted, its commands, and commands written as one.
-ghost use Rattle.std.specs.Prelude.{◌≡◌, ℕ, List, map, length, take, IfOk, MatchResult};
+ghost use Rattle.std.specs.Prelude.{◌≡◌, map, length, take, IfOk, MatchResult};
 ghost use Rattle.runlist.specs.declared.lists.ReadError.TheVariants.{Memory, Refused as refused_because};
 ghost use Rattle.runlist.specs.Format.{item};
 ghost use Rattle.runlist.specs.Lists.{read_list, write_list, overwritten};
-ghost use Rattle.runlist.specs.Reads.{accepted, to_come, Commands, NotRead};
+ghost use Rattle.runlist.specs.Reads.{accepted, Commands, NotRead};
 ghost use Rattle.runlist.specs.Laws.{whole_of, RoundTrip};
 ghost use Rattle.runlist.specs.Writes.{written};
 

@@ -1,5 +1,5 @@
 // Appends commands to a list in a lent buffer. A refused append leaves buffer and length as they were.
-ghost use Rattle.std.specs.Prelude.{◌≡◌, ◌+◌, ◌≤◌, length};
+ghost use Rattle.std.specs.Prelude.{◌≡◌, ◌+◌, length};
 ghost use Rattle.runlist.specs.Format.{item};
 ghost use Rattle.refusal.specs.Answers.{replied, unless_refused};
 ghost use Rattle.runlist.specs.Lists.{bytes, append_refusal, overwritten};

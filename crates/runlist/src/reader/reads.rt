@@ -2,7 +2,7 @@
 ghost use Rattle.std.specs.Prelude.{◌≡◌, ◌+◌, ◌-◌, ◌<◌, length, IfNone};
 ghost use Rattle.runlist.specs.Format.{width_of};
 ghost use Rattle.runlist.specs.Lists.{next_of_width, read_list};
-ghost use Rattle.runlist.specs.Reads.{found, cut_out, cut_to, to_come, given, first_of, place, nothing, placed, refusal, Step};
+ghost use Rattle.runlist.specs.Reads.{found, cut_out, cut_to, to_come, given, first_of, nothing, Step};
 ghost use Rattle.std.specs.Iterator.{at_most};
 
 use crate::command::Command;
