@@ -86,7 +86,7 @@ fn make<S: Store>(store: &mut S, call: Call) -> Answer {
 // A number made of all rows of a store.
 fn table_digest<S: Store>(store: &S) -> u64 {
     let mut digest = 0;
-    // a store tells its rows by position
+    // a store hands out no slice of its rows: it tells them by position
     for at in 0..store.count() {
         if let Ok(key) = store.position(at) {
             digest = mix(digest, key_number(key));
