@@ -8,7 +8,7 @@ use refusal::Refusal;
 use std::marker::PhantomData;
 
 // The name of a federation and the count of its restarts, for a caller that notes down what it asked on which ticket.
-#[derive(Clone, Copy)]
+#[derive(Clone, Copy, PartialEq, Eq, Debug)]
 pub struct TicketNumbers {
     pub name: u32,
     pub count: u32,

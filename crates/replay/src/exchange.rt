@@ -5,7 +5,7 @@ use law::{Arrived, Carried, Noted, Sent};
 use refusal::Refusal;
 
 // A call with its arguments. Calls on a ticket use the one that is held.
-#[derive(Clone, Copy)]
+#[derive(Clone, Copy, PartialEq, Eq, Debug)]
 pub enum Call {
     Request { cluster: u8, rank: u8 },
     Answer { cluster: u8, rank: u8, word: u64 },
@@ -23,7 +23,7 @@ pub enum Call {
 }
 
 // What a fault tells: the place of the failed cluster, and the numbers of the ticket.
-#[derive(Clone, Copy)]
+#[derive(Clone, Copy, PartialEq, Eq, Debug)]
 pub struct Began {
     pub place: u32,
     pub ticket: TicketNumbers,

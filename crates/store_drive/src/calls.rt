@@ -3,7 +3,7 @@ ghost use Rattle.std.specs.Prelude.{◌<◌, ◌≤◌};
 
 use store::RowKey;
 
-#[derive(Clone, Copy)]
+#[derive(Clone, Copy, PartialEq, Eq, Debug)]
 pub enum Call {
     Keep {
         key: RowKey,
@@ -23,7 +23,7 @@ pub enum Call {
 }
 
 // A linear congruential generator: each state gives the next one.
-#[derive(Clone, Copy)]
+#[derive(Clone, Copy, PartialEq, Eq, Debug)]
 pub struct Calls {
     state: u64,
 }

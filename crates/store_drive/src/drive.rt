@@ -9,7 +9,7 @@ type Answer = Result<u64, StoreRefusal>;
 
 // A run of calls on two stores, and what came of it so far: whether the two were alike after every call, and
 // a number made of all answers and tables.
-#[derive(Clone, Copy)]
+#[derive(Clone, Copy, PartialEq, Eq, Debug)]
 pub struct Run {
     calls: Calls,
     alike: bool,

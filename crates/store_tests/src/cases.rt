@@ -3,7 +3,7 @@ use refusal::StoreRefusal;
 use refusal::StoreRefusal::{Held, NotHeld, WordCount};
 use store::{RowKey, Store};
 
-#[derive(Clone, Copy)]
+#[derive(Clone, Copy, PartialEq, Eq, Debug)]
 enum Call {
     Keep(u8, u32, usize),
     Discard(u8, u32),

@@ -11,7 +11,7 @@ use std::alloc::Global;
 use store::{MOST_WORDS, RowKey, Store};
 
 // Why a federation did not open: it was refused, or there was no memory.
-#[derive(Clone, Copy)]
+#[derive(Clone, Copy, PartialEq, Eq, Debug)]
 pub enum Closed {
     Refused(Refusal),
     NoMemory,
