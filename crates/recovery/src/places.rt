@@ -22,6 +22,9 @@ pub(super) fn to_others(count: usize, from: usize) -> Alerts
     Alerts { to }
 }
 
+// That there are at most eight clusters, and where a cluster stands, are clauses here and in the calls below: the clusters are lent
+// beside a restart of the same book, and a type for such a slice would hold this one bound, which a clause says as plainly.
+
 // The restart in which one cluster has failed: it goes back to its newest checkpoint and alerts every other.
 pub fn begin(clusters: &[Cluster], failed: usize) -> Restart
     requires within { failed < length clusters.now }

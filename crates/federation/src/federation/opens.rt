@@ -68,6 +68,7 @@ fn keep_first<S: Store>(store: &mut S, clusters: u8, nodes: u8)
     ensures { S.Store.model store.new ≡ kept_first clusters nodes (S.Store.model store.old) }
 {
     let words = [0; MOST_WORDS];
+    // a cluster is known by its number, so the numbers are what the loop goes over
     for cluster in 0..clusters {
         // an empty store with room refuses none of them
         let _ = store.keep(RowKey { cluster, number: 1 }, &words[0..usize::from(nodes)]);

@@ -14,7 +14,7 @@ use rule::ForcingRule;
 use store::{MOST_WORDS, RowKey, SidedStore, Store};
 
 impl<S: Store, R: ForcingRule> Federation<S, R> {
-    // The words of a kept checkpoint.
+    // The words of a kept checkpoint. Cluster and number come apart, as they stand in a command: only a store's rows have the two as one key.
     pub fn read(&self, cluster: u8, number: u32) -> Result<ArrayVec<u64, 32>, Refusal>
         ensures { told_list result ≡ read_tells (shown S.Store.model self.now) cluster number }
     {

@@ -56,6 +56,7 @@ impl<S: Store, R: ForcingRule> Federation<S, R> {
     {
         match restarts::finish(&mut self.book, ticket.numbers) {
             Ok(()) => Ok(ticket.settle()),
+            // no `?`: a refusal hands the ticket back
             Err(why) => Err(Returned { why, ticket }),
         }
     }
@@ -72,6 +73,7 @@ impl<S: Store, R: ForcingRule> Federation<S, R> {
                 ticket.give_up();
                 Ok(resumed)
             }
+            // no `?`, as above
             Err(why) => Err(Returned { why, ticket }),
         }
     }
