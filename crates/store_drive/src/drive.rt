@@ -83,17 +83,16 @@ fn make<S: Store>(store: &mut S, call: Call) -> Answer {
     answer.map_err(sideless)
 }
 
-// A number made of all rows of a store.
+// A number made of all rows of a store, which it tells by position.
 fn table_digest<S: Store>(store: &S) -> u64 {
-    let mut digest = 0;
-    // a store hands out no slice of its rows: it tells them by position
-    for at in 0..store.count() {
-        if let Ok(key) = store.position(at) {
-            digest = mix(digest, key_number(key));
-            digest = mix(digest, read(store, key, 32).unwrap_or(0));
-        }
-    }
-    digest
+    (0..store.count())
+        .filter_map(|at| store.position(at).ok())
+        .fold(0, |digest, key| {
+            mix(
+                mix(digest, key_number(key)),
+                read(store, key, 32).unwrap_or(0),
+            )
+        })
 }
 
 impl Run {
