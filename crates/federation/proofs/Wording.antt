@@ -3,14 +3,13 @@ use Rattle.std.proofs.Common.{◌≡◌, ℕ, ◌≤◌, Bool, true, false, cond
 use Rattle.std.proofs.lemmas.List.{take_at}
 use Rattle.std.proofs.lemmas.Bool.{leb-true, le-leb, cond-true}
 use Rattle.refusal.specs.declared.Refusal.{Refusal}
+use Rattle.refusal.specs.declared.Refusal.TheVariants as refuses
 use Rattle.refusal.specs.declared.StoreRefusal.{StoreRefusal}
 use Rattle.refusal.specs.declared.StoreRefusal.TheVariants as store_refuses
 use Rattle.refusal.specs.Answers.{unless_refused, replied}
 use Rattle.store.specs.Table.{TableRow, lookup, under, words_fit, over, read_refused}
 use Rattle.store.specs.Formed.{sized}
 use Rattle.store.proofs.Orders.{both_true}
-use Rattle.refusal.specs.Answers.{replied}
-use Rattle.law.specs.Rounds.{from_store}
 use Rattle.federation.specs.Told.{held}
 
 nothing : {A B : Type 0} {why : B} {x : A} → ◌≡◌ {A = Result A B} (Ok x) (Err why) → ⊥
@@ -44,9 +43,9 @@ read_held (Some ws) count buffer now e l = by_test (leb (length ws) 32) e l
         said x = Ok x
     by_test false f g = absurd (nothing f)
 
-pub read_refused_lem : (o : Option (List ℕ)) (why : Refusal) (count : ℕ) → ((ws : List ℕ) → o ≡ Some ws → length ws ≤ 32) → Err why ≡ replied (from_store (read_refused o 32)) count → Err why ≡ held o
+pub read_refused_lem : (o : Option (List ℕ)) (why : StoreRefusal) (count : ℕ) → ((ws : List ℕ) → o ≡ Some ws → length ws ≤ 32) → Err why ≡ replied (read_refused o 32) count → Err (refuses.Store why) ≡ held o
 read_refused_lem None why count fits e = cc
 read_refused_lem (Some ws) why count fits e =
     let room : read_refused (Some ws) 32 ≡ None = cond-true (leb (length ws) 32) None (Some store_refuses.WordCount) (le-leb _ _ (fits ws refl)) in
-    let z : Err why ≡ Ok count = e ∙ ap (λ (x : Option StoreRefusal). replied (from_store x) count) room in
+    let z : Err why ≡ Ok count = e ∙ ap (λ (x : Option StoreRefusal). replied x count) room in
     absurd (nothing (sym z))

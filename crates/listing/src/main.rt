@@ -2,8 +2,8 @@
 // and that its commands, written again, are the same bytes.
 #![tactic(auto)]
 
-use anyhow::{bail, ensure};
-use runlist::{MOST_BYTES, Reader};
+use anyhow::{anyhow, bail};
+use runlist::{MOST_BYTES, ReadError, Reader};
 use std::env;
 use std::io::Read;
 use std::process::ExitCode;
@@ -63,10 +63,16 @@ fn print_list(rt: &HostRuntime, list: &[u8]) -> anyhow::Result<bool> {
 
 fn print_again(rt: &HostRuntime, list: &[u8]) -> anyhow::Result<()> {
     let heap = rt.alloc();
-    let commands = runlist::read_list(heap, list)?;
+    let commands = runlist::read_list(heap, list).map_err(|why| match why {
+        ReadError::Refused(_) => anyhow!("a list that was accepted is refused"),
+        ReadError::Memory => anyhow!("out of memory"),
+    })?;
     let mut buffer = vec![in heap; 0u8; list.len()]?;
-    let len = runlist::write_list(commands.as_slice(), buffer.as_mut_slice())?;
-    ensure!(buffer.as_slice() == list, "written again, the list differs");
+    let written = runlist::write_list(commands.as_slice(), buffer.as_mut_slice());
+    let len = written
+        .ok()
+        .filter(|_| buffer.as_slice() == list)
+        .ok_or(anyhow!("written again, the list differs"))?;
     println!(rt; "{}", wording::written_again(heap, len)?)?;
     Ok(())
 }

@@ -64,7 +64,6 @@ limited rows capacity full = record { table = rows; capacity = capacity; full = 
 abbrev pub with_table : Model → List TableRow → Model
 with_table m rows = record { table = rows; capacity = m.capacity; full = m.full }
 
--- the answer of a call that tells nothing but whether it was refused
 -- 1 to 32 words
 abbrev pub words_fit : ℕ → Bool
 words_fit count = both (nat_le 1 count) (nat_le count 32)

@@ -71,8 +71,7 @@ impl<S: Store, R: ForcingRule> Federation<S, R> {
         let words = words_of(&round.answers);
         let number = rounds::next_number(&self.book, cluster);
         self.store
-            .keep(RowKey { cluster, number }, &words[0..nodes])
-            .map_err(Refusal::Store)?;
+            .keep(RowKey { cluster, number }, &words[0..nodes])?;
         rounds::commit(&mut self.book, cluster, round.waiting);
         Ok(Noted::Committed(number, round.waiting))
     }

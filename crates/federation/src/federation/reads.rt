@@ -28,10 +28,7 @@ impl<S: Store, R: ForcingRule> Federation<S, R> {
         // whoever asks for the count learns that every row has at most 32 words, so the buffer suffices
         let _rows = self.store.count();
         let mut buffer = [0; MOST_WORDS];
-        let count = self
-            .store
-            .read(RowKey { cluster, number }, &mut buffer)
-            .map_err(Refusal::Store)?;
+        let count = self.store.read(RowKey { cluster, number }, &mut buffer)?;
         let mut words = ArrayVec::from(buffer);
         words.truncate(count);
         Ok(words)
@@ -46,7 +43,7 @@ impl<S: SidedStore, R: ForcingRule> Federation<S, R> {
         ensures out { S.SidedStore.out self.new.store ≡ lose_out (S.SidedStore.sides self.old.store) (S.SidedStore.out self.old.store) side }
         ensures sides { S.SidedStore.sides self.new.store ≡ S.SidedStore.sides self.old.store }
     {
-        self.store.lose(side).map_err(Refusal::Store)
+        Ok(self.store.lose(side)?)
     }
 
     // The store fills a side that is out from the rest. The table stays as it is.
@@ -56,6 +53,6 @@ impl<S: SidedStore, R: ForcingRule> Federation<S, R> {
         ensures out { S.SidedStore.out self.new.store ≡ rebuild_out (S.SidedStore.sides self.old.store) (S.SidedStore.out self.old.store) side }
         ensures sides { S.SidedStore.sides self.new.store ≡ S.SidedStore.sides self.old.store }
     {
-        self.store.rebuild(side).map_err(Refusal::Store)
+        Ok(self.store.rebuild(side)?)
     }
 }
