@@ -19,6 +19,6 @@ pub const MOST_MESSAGES: usize = 128;
 // Numbers of checkpoints, ids and restarts end here.
 pub const LAST_NUMBER: u32 = 1_000_000;
 
-// The place of a cluster that is not called back: above every number. As a number, each test and each minimum of places is one
-// comparison; as an Option each would be a match.
+// The place of a cluster that is not called back: above every number, so that no test and no minimum of places needs a case for it. `None`
+// would sort below every number, and the law's places are numbers.
 pub const STAYS: u32 = 1_000_001;

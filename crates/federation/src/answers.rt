@@ -37,13 +37,9 @@ pub(crate) fn with_word(round: Round, rank: usize, word: u64) -> Round
     requires { rank < 32 }
     ensures { result ≡ record { initiator = round.initiator; answers = slice_set round.answers rank (Some word); waiting = round.waiting } }
 {
-    let mut answers = round.answers;
-    answers[rank] = Some(word);
-    Round {
-        initiator: round.initiator,
-        answers,
-        waiting: round.waiting,
-    }
+    let mut noted = round;
+    noted.answers[rank] = Some(word);
+    noted
 }
 
 // How many nodes have not answered.

@@ -1,4 +1,5 @@
-// Resume and collect: what leaves the book, its log and the store.
+// Resume and collect: what leaves the book, its log and the store. These two come apart and not as a federation, so that nothing here is
+// proved for each rule.
 ghost use Rattle.std.specs.Prelude.{◌≡◌, ◌-◌, ◌≤◌, true, map, length, take, None, vec_len};
 ghost use Rattle.store.specs.Table.{Model};
 ghost use Rattle.law.specs.Book.{with_log, with_restart};

@@ -9,6 +9,7 @@ ghost use Rattle.federation.specs.Tickets.{numbered, stage_refusal};
 
 use crate::sight::count as count_of;
 use crate::tickets::TicketNumbers;
+use crate::trials::may_try;
 use book::{Book, LAST_NUMBER};
 use law::{Carried, Restart};
 use recovery::{begin, carry, drain, told};
@@ -19,12 +20,7 @@ fn may_fault(book: &Book, cluster: u8) -> Result<(), Refusal>
     ensures accepts { OnOk result (fault_refusal (bare book.now) cluster ≡ None) }
     ensures refuses { IfErr result (λ why. fault_refusal (bare book.now) cluster ≡ Some why) }
 {
-    if usize::from(cluster) >= count_of(book) {
-        return Err(Refusal::NoCluster);
-    }
-    if book.restart.is_some() {
-        return Err(Refusal::RestartOpen);
-    }
+    may_try(book, cluster)?;
     if book.restarts >= LAST_NUMBER {
         return Err(Refusal::NumbersSpent);
     }
@@ -59,7 +55,7 @@ pub(crate) fn newest(book: &Book) -> TicketNumbers
 fn holds(book: &Book, ticket: TicketNumbers) -> bool
     ensures { result ≡ holds_in (bare book.now) (numbered ticket) }
 {
-    ticket.name == book.name && ticket.count == book.restarts
+    ticket == newest(book)
 }
 
 // Whether an alert waits between the two clusters.
@@ -85,9 +81,7 @@ fn alerted(book: &Book, ticket: TicketNumbers, from: u8, to: u8) -> Result<Resta
     if from == to {
         return Err(Refusal::SameCluster);
     }
-    let Some(restart) = book.restart else {
-        return Err(Refusal::NoRestart);
-    };
+    let restart = book.restart.ok_or(Refusal::NoRestart)?;
     if !waits(&restart, i, j) {
         return Err(Refusal::NoAlert);
     }

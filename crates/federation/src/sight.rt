@@ -41,8 +41,7 @@ pub(crate) fn cluster(book: &Book, i: usize) -> &Cluster
 
 // Whether a round can open at this cluster, and why not.
 pub(crate) fn may_open(book: &Book, i: usize) -> Result<(), Refusal>
-    requires within { i < vec_len book.now.clusters }
-    requires few { i < 8 }
+    requires { i < vec_len book.now.clusters }
     ensures accepts { OnOk result (round_refusal (bare book.now) i ≡ None) }
     ensures refuses { IfErr result (λ why. round_refusal (bare book.now) i ≡ Some why) }
 {

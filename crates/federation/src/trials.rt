@@ -12,7 +12,7 @@ use recovery::{told_places, trial as tried};
 use refusal::Refusal;
 
 // Whether a trial is accepted, and why not.
-fn may_try(book: &Book, cluster: u8) -> Result<(), Refusal>
+pub(crate) fn may_try(book: &Book, cluster: u8) -> Result<(), Refusal>
     ensures accepts { OnOk result (trial_refusal (bare book.now) cluster ≡ None) }
     ensures refuses { IfErr result (λ why. trial_refusal (bare book.now) cluster ≡ Some why) }
 {

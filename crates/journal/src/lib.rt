@@ -28,12 +28,13 @@ pub const SIZE: usize = 16_832;
 
 #[derive(Drop)]
 pub struct Journal<'a> {
+    // lent, so that a journal needs no memory for its records: how many of them are used is counted beside them
     bytes: &'a mut [u8],
     // the bytes of the records
     used: usize,
     // oldest first
     held: Vec<Held>,
-    // the same records in order of cluster, then number
+    // the same records in order of cluster, then number; no map, which would want memory at each keep, where this is reserved once
     index: Vec<Held>,
     ghost size: { length bytes.now ≡ 16832 },
     ghost within: { used ≤ 16832 },

@@ -1,7 +1,6 @@
 -- Eight short runs and three more, each a list of calls with the answers that the definitions give, all in one statement.
 --
 --   ◌gets◌      a call with the answer that it gets
---   accepted    an answer that tells something
 --   Answers     these calls, made on a federation that begins so, get these very answers
 --   WorkedRuns  all the runs
 use Rattle.std.specs.Prelude.{◌≡◌, ℕ, zero, suc, ◌+◌, true, false, List, [], ◌∷◌, ◌++◌, map, replicate, Some, None, Ok, Err, Option, Result}

@@ -8,6 +8,9 @@ ghost use Rattle.law.specs.Slips.{Slips};
 
 use ordered::Keyed;
 
+// Records of fixed size: a row, places and alerts are eight, whatever the number of clusters, and answers thirty-two. That the law's own
+// records are these is why places and alerts stand side by side, and why a restart says by itself that it is settled.
+
 // A message as it was sent.
 #[derive(Clone, Copy, PartialEq, Eq, Debug)]
 pub struct Message {

@@ -18,21 +18,11 @@ ends it, what that means, and the offset of the command.
 Ends with status 0 if the list is accepted, else with status 1.";
 
 fn main(rt: HostRuntime) -> anyhow::Result<ExitCode> {
-    let accepted = run(&rt)?;
-    // what is wrong with a refused list has been said
-    Ok(if accepted {
-        ExitCode::SUCCESS
-    } else {
-        ExitCode::FAILURE
-    })
-}
-
-fn run(rt: &HostRuntime) -> anyhow::Result<bool> {
-    match env::args(rt)?.nth(1) {
-        None => print_list(rt, read_input(rt)?.as_slice()),
+    match env::args(&rt)?.nth(1) {
+        None => print_list(&rt, read_input(&rt)?.as_slice()),
         Some(arg) if arg.as_str() == "--help" => {
             println!(rt; "{HELP}")?;
-            Ok(true)
+            Ok(ExitCode::SUCCESS)
         }
         Some(arg) => bail!("unknown argument {arg}; try --help"),
     }
@@ -47,7 +37,7 @@ fn read_input(rt: &HostRuntime) -> anyhow::Result<Vec<u8>> {
     Ok(list)
 }
 
-fn print_list(rt: &HostRuntime, list: &[u8]) -> anyhow::Result<bool> {
+fn print_list(rt: &HostRuntime, list: &[u8]) -> anyhow::Result<ExitCode> {
     let heap = rt.alloc();
     for placed in Reader::new(list).filter_map(Result::ok) {
         println!(rt; "{}", wording::line(heap, placed)?)?;
@@ -55,10 +45,11 @@ fn print_list(rt: &HostRuntime, list: &[u8]) -> anyhow::Result<bool> {
     let accepted = runlist::accept(list);
     println!(rt; "{}", wording::verdict(heap, accepted, list.len())?)?;
     if accepted.is_err() {
-        return Ok(false);
+        // what is wrong with the list has been said
+        return Ok(ExitCode::FAILURE);
     }
     print_again(rt, list)?;
-    Ok(true)
+    Ok(ExitCode::SUCCESS)
 }
 
 fn print_again(rt: &HostRuntime, list: &[u8]) -> anyhow::Result<()> {

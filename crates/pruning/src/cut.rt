@@ -40,22 +40,6 @@ fn discard_rows<C: Cut, S: Store>(store: &mut S, cluster: &Cluster, cut: &C)
     }
 }
 
-// Keeps the checkpoints at a place or before it.
-fn keep_up_to(kept: &mut Vec<Checkpoint>, place: u32)
-    ensures items { kept.new.items ≡ filter (λ c. nat_le c.number place) kept.old.items }
-    ensures capacity { vec_capacity kept.new ≡ vec_capacity kept.old }
-{
-    kept.retain(|checkpoint| checkpoint.number <= place);
-}
-
-// Keeps the checkpoints from a bound on.
-fn keep_from(kept: &mut Vec<Checkpoint>, bound: u32)
-    ensures items { kept.new.items ≡ filter (λ c. nat_le bound c.number) kept.old.items }
-    ensures capacity { vec_capacity kept.new ≡ vec_capacity kept.old }
-{
-    kept.retain(|checkpoint| bound <= checkpoint.number);
-}
-
 // The row of a cluster as it was at its place.
 fn row_back(cluster: &Cluster, place: u32) -> [u32; 8]
     ensures { result ≡ row_back place cluster.now.row cluster.now.kept.items }
@@ -63,7 +47,7 @@ fn row_back(cluster: &Cluster, place: u32) -> [u32; 8]
     if place == STAYS {
         return cluster.row;
     }
-    // not map_or: the search does not find which row it gives
+    // tried: map_or; the proof did not close, since it leaves open which row is given
     match checkpoint_at(&cluster.kept, place) {
         Some(checkpoint) => checkpoint.row,
         None => cluster.row,
@@ -84,7 +68,7 @@ impl Cut for Back {
         let place = self.places[cluster.own];
         let row = row_back(cluster, place);
         cluster.row = row;
-        keep_up_to(&mut cluster.kept, place);
+        cluster.kept.retain(|checkpoint| checkpoint.number <= place);
     }
 }
 
@@ -100,7 +84,7 @@ impl Cut for Collect {
 
     fn change(&self, cluster: &mut Cluster) {
         let bound = self.bounds[cluster.own];
-        keep_from(&mut cluster.kept, bound);
+        cluster.kept.retain(|checkpoint| bound <= checkpoint.number);
     }
 }
 

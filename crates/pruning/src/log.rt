@@ -49,8 +49,8 @@ fn unreceive(logged: Logged, places: &[u32; 8]) -> Logged
     ensures { result ≡ unreceived places.now logged }
 {
     Logged {
-        message: logged.message,
         receipt: receipt_left(logged.receipt, entry(places, logged.message.to)),
+        ..logged
     }
 }
 

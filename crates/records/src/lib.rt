@@ -75,7 +75,7 @@ pub fn read_words(bytes: &[u8], count: usize, buffer: &mut [u64])
     ensures { buffer.new ≡ over (words_in count bytes.now) buffer.old }
 {
     let (words, _) = bytes.as_chunks::<8>();
-    // tried: `buffer.iter_mut().zip(words)`; no invariant can name a buffer that is lent to a chain, so its words stay open
+    // tried: `buffer.iter_mut().zip(words)`; the proof did not close, its invariant would speak of a buffer that is lent to the chain
     for (i, word) in words[..count].iter().enumerate() {
         buffer[i] = u64::from_be_bytes(*word);
     }

@@ -95,7 +95,7 @@ fn first_waiting(waiting: &[Alerts; 8]) -> Option<(usize, usize)>
     ensures value { result ≡ first_waiting 0 waiting.now }
     ensures within { IfSome result (λ pair. (pair.0 < 8) × (pair.1 < 8)) }
 {
-    // not find_map: the search does not find which pair it gives
+    // tried: find_map; the proof did not close, since it leaves open which pair is given
     for (from, alerts) in waiting.iter().enumerate() {
         if let Some(to) = first_true(&alerts.to) {
             return Some((from, to));

@@ -22,8 +22,8 @@ pub(super) fn to_others(count: usize, from: usize) -> Alerts
     Alerts { to }
 }
 
-// That there are at most eight clusters, and where a cluster stands, are clauses here and in the calls below: the clusters are lent
-// beside a restart of the same book, and a type for such a slice would hold this one bound, which a clause says as plainly.
+// That there are at most eight clusters, and that a position is one of eight, are clauses here and in the calls below: a type for the slice or
+// for a position would ask callers for a value that they have to make for each call, where the clause is found from their book alone.
 
 // The restart in which one cluster has failed: it goes back to its newest checkpoint and alerts every other.
 pub fn begin(clusters: &[Cluster], failed: usize) -> Restart

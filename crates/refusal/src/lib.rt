@@ -1,5 +1,6 @@
 // Every refusal of the product, in one place: its number, its layer, the side of a store that it names,
 // and what it says to a person. A number never changes its meaning: rig makers store it in their logs.
+// It has two bytes, number and side, and two letters, its own and its layer's: each is a method with a name, since no `From` would be the one.
 #![tactic(auto)]
 
 ghost use Rattle.std.specs.Prelude.{◌≡◌, Some};

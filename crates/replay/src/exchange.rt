@@ -22,7 +22,8 @@ pub enum Call {
     Rebuild { side: u8 },
 }
 
-// What a fault tells: the place of the failed cluster, and the numbers of the ticket.
+// What a fault tells: the place of the failed cluster, and the numbers of the ticket. A type of its own beside `Faulted`, whose ticket has to
+// be used up: this one is copied and compared.
 #[derive(Clone, Copy, PartialEq, Eq, Debug)]
 pub struct Began {
     pub place: u32,

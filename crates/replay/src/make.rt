@@ -84,6 +84,7 @@ fn alert_on<S: SidedStore, R: ForcingRule>(
     }
 }
 
+// Finish and resume are two functions each: their tickets are of two stages, and their exchanges of two cases.
 fn finish_on<S: SidedStore, R: ForcingRule>(
     federation: &mut Federation<S, R>,
     ticket: Ticket<Travelling>,

@@ -63,6 +63,7 @@ pub enum Operands {
 }
 
 impl<'a> Command<'a> {
+    // The letters stand here, from a command to its byte, and in the reader, from a byte to its command: one match cannot be both.
     pub fn letter(self) -> char
         ensures { result ≡ (item self.entry).letter }
     {

@@ -27,6 +27,7 @@ pub struct Placed<'a> {
 pub struct Reader<'a> {
     list: &'a [u8],
     at: usize,
+    // `at` tells it too, but not behind a refusal, and the definition of what is to come reads it
     opened: bool,
     ghost within: { at ≤ length list.now },
 }

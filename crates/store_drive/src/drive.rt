@@ -31,6 +31,7 @@ fn fill_words(words: &mut [u64], seed: u64) {
     }
 }
 
+// The stored output hangs on the numbers that these two make.
 fn sum_words(words: &[u64]) -> u64 {
     words.iter().fold(0, |sum, word| mix(sum, *word))
 }

@@ -16,6 +16,7 @@ mod drive;
 const TURNS: u32 = 400;
 
 fn make_slots(heap: Global) -> Result<Slots> {
+    // the texts stay as the program has always told them
     Slots::new(heap).map_err(|_| anyhow!("no memory"))
 }
 

@@ -3,6 +3,7 @@ use refusal::StoreRefusal;
 use refusal::StoreRefusal::{Held, NotHeld, WordCount};
 use store::{RowKey, Store};
 
+// Written out by hand, where the calls that drive two stores (a type of that program) are made from a seed.
 #[derive(Clone, Copy, PartialEq, Eq, Debug)]
 enum Call {
     Keep(u8, u32, usize),
@@ -47,13 +48,10 @@ fn make<S: Store>(store: &mut S, call: Call) -> Result<(), StoreRefusal> {
 
 // The first case that answers otherwise, with that answer.
 pub fn answers<S: Store>(store: &mut S) -> Option<(usize, Result<(), StoreRefusal>)> {
-    for (i, (call, expected)) in CASES.iter().enumerate() {
+    CASES.iter().enumerate().find_map(|(i, (call, expected))| {
         let told = make(store, *call);
-        if told != *expected {
-            return Some((i, told));
-        }
-    }
-    None
+        (told != *expected).then_some((i, told))
+    })
 }
 
 // Keeps a row under every number up to 64, and then one more.

@@ -1,4 +1,4 @@
-// Tables of calls with the letters that they answer, tried on stores of every kind.
+// Tables of calls with what they answer, tried on stores of every kind.
 #![tactic(auto)]
 
 #[cfg(test)]

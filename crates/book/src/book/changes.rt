@@ -1,4 +1,5 @@
-// What the calls do to the book: a round, a checkpoint, a message, a delivery. The words of checkpoints are the store's.
+// What the calls do to the book: a round, a checkpoint, a message, a delivery. The words of checkpoints are the store's. That a position is one
+// of a cluster or of a message, or that a round is open there, are clauses: a type would say it of one book, and until the next call only.
 ghost use Rattle.std.specs.Prelude.{◌≡◌, ◌<◌, ◌≤◌, true, map, length, is_some, vec_len, slice_index_or};
 ghost use Rattle.store.specs.Table.{Model};
 ghost use Rattle.law.specs.Book.{at as cluster_at, nobody, entry as entry_of, with_cluster, with_clusters, with_round, with_log, most_messages, last_number};

@@ -55,6 +55,7 @@ impl<A: Store, B: Store> Pair<A, B> {
     }
 }
 
+// Each call matches on the side that is out: the sides are of two types, and one value for either would be a dyn that is handed out.
 impl<A: Store, B: Store> Store for Pair<A, B> {
     ghost model = { λ p. pair_model p.out (A.Store.model p.first) (B.Store.model p.second) };
 
