@@ -206,8 +206,11 @@ impl<'a> Journal<'a> {
 
 impl<'a> Store for Journal<'a> {
     ghost use Rattle.journal.specs.State.{journal_model};
+    ghost use Rattle.std.proofs.Common.{rules};
 
     ghost model = { journal_model };
+
+    ghost formed = { Prim.search rules };
 
     fn keep(&mut self, key: RowKey, words: &[u64]) -> Result<(), StoreRefusal> {
         self.keep_row(key, words)

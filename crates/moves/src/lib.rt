@@ -5,7 +5,6 @@
 ghost use Rattle.std.specs.Prelude.{◌≡◌, ◌+◌, ◌<◌, ◌≤◌, [], length, take, drop};
 ghost use Rattle.refusal.specs.Answers.{replied};
 ghost use Rattle.store.specs.Table.{limited, with_table, keep_refusal, keep_model, drop_refusal, drop_model};
-ghost use Rattle.store.specs.Formed.{Formed};
 
 use refusal::StoreRefusal;
 use store::{Limit, MOST_WORDS, RowKey, Store};
@@ -68,7 +67,6 @@ pub fn fill<F: Store, T: Store>(from: &F, to: &mut T)
 
 // Copies the row at this position behind those before it.
 fn copy_row<F: Store, T: Store>(from: &F, to: &mut T, at: usize)
-    requires formed { Formed (F.Store.model from.now) }
     requires within { at < length (F.Store.model from.now).table }
     requires fits { at < (T.Store.model to.old).capacity }
     requires front { (T.Store.model to.old).table ≡ take at (F.Store.model from.now).table }

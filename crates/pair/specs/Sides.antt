@@ -5,11 +5,13 @@
 --   out_number  the side that is out, counted from 1, and 0 where none is
 --   standing    the table of a side that is not out
 --   pair_model  that table, the smaller capacity, and the first side that has it
+--   pair_formed that it is formed where both sides are, and its table is short enough for both
 --   Together    both sides hold the same rows, or the side that is out holds none
-use Rattle.std.specs.Prelude.{◌≡◌, ℕ, min, cond, List, [], Some, None, Ok, Err, Option, Result, ◌==◌, nat_le}
+use Rattle.std.specs.Prelude.{◌≡◌, ℕ, ◌≤◌, min, length, cond, List, [], Some, None, Ok, Err, Option, Result, ◌==◌, nat_le}
 use Rattle.refusal.specs.declared.StoreRefusal.{StoreRefusal}
 use Rattle.refusal.specs.declared.StoreRefusal.TheVariants.{NoSide}
 use Rattle.store.specs.Table.{TableRow, Model, limited}
+use Rattle.store.specs.Formed.{Formed}
 use Rattle.pair.specs.declared.side.Side.{Side}
 use Rattle.pair.specs.declared.side.Side.TheVariants.{First, Second}
 
@@ -36,6 +38,11 @@ smaller first second = cond (nat_le first second) First Second
 abbrev pub pair_model : Option Side → Model → Model → Model
 pair_model out a b =
     limited (standing out a.table b.table) (min a.capacity b.capacity) (number_of (smaller a.capacity b.capacity))
+
+pub pair_formed : (out : Option Side) {a b : Model} → Formed a → Formed b → length (standing out a.table b.table) ≤ min a.capacity b.capacity → Formed (pair_model out a b)
+pair_formed None a b short = record { short = short; rising = a.rising; sized = a.sized }
+pair_formed (Some First) a b short = record { short = short; rising = b.rising; sized = b.sized }
+pair_formed (Some Second) a b short = record { short = short; rising = a.rising; sized = a.sized }
 
 -- the rows that have to be equal: those of both sides, or those of the side that is out and none
 abbrev pub one_side : Option Side → List TableRow → List TableRow → List TableRow

@@ -13,6 +13,8 @@ pub struct Sideless<S> {
 impl<S: Store> Store for Sideless<S> {
     ghost model = { λ s. S.Store.model s.store };
 
+    ghost formed = { λ s. S.Store.formed s.store };
+
     fn keep(&mut self, key: RowKey, words: &[u64]) -> Result<(), StoreRefusal> {
         self.store.keep(key, words)
     }

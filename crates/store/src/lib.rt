@@ -88,6 +88,9 @@ pub trait Store {
         }
         Ok(())
     }
+
+    // The table of every store is formed.
+    ghost formed: { (s : Self) → Formed (model s) };
 }
 
 // A store that can lose one of its sides and rebuild it. Its table is changed by neither.

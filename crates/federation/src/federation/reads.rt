@@ -25,8 +25,7 @@ impl<S: Store, R: ForcingRule> Federation<S, R> {
     fn words(&self, cluster: u8, number: u32) -> Result<ArrayVec<u64, 32>, Refusal>
         ensures { told_list result ≡ held (lookup (S.Store.model self.now.store).table cluster number) }
     {
-        // whoever asks for the count learns that every row has at most 32 words, so the buffer suffices
-        let _rows = self.store.count();
+        // every row of a store has at most 32 words, so the buffer suffices
         let mut buffer = [0; MOST_WORDS];
         let count = self.store.read(RowKey { cluster, number }, &mut buffer)?;
         let mut words = ArrayVec::from(buffer);

@@ -9,7 +9,7 @@ unreachable-requires g c =
 
 pub unreachable-requires-in_default-read : goal.unreachable-requires-in_default-read
 unreachable-requires-in_default-read g c =
-    read_there (g.F.Store.model c.args.from.now) c.requires.formed c.args.at c.requires.within c.in-Ok.key
+    read_there (g.F.Store.model c.args.from.now) (g.met.F.Store.formed c.args.from.now) c.args.at c.requires.within c.in-Ok.key
     c.in-Ok.ensures 32 _ c.in_default-read.field-0 (omega arith) c.in_default-read.ensures.answer
 
 pub returns : goal.returns
@@ -18,6 +18,6 @@ returns g c =
     let ws = take (count - 0) c.read.new.buffer in
     let cut : ws ≡ take count c.read.new.buffer = ap (λ k. take k c.read.new.buffer) (omega arith) in
     c.keep.ensures.after
-    ∙ copied (g.F.Store.model c.args.from.now) c.requires.formed c.args.at c.requires.within c.in-Ok.key
+    ∙ copied (g.F.Store.model c.args.from.now) (g.met.F.Store.formed c.args.from.now) c.args.at c.requires.within c.in-Ok.key
     c.in-Ok.ensures (g.T.Store.model c.args.to.now) count (replicate 32 0) c.read.new.buffer ws
     c.requires.fits c.requires.front c.in-Ok-read.ensures.answer c.read.ensures.buffer cut

@@ -2,7 +2,7 @@
 ghost use Rattle.std.specs.Prelude.{◌≡◌, min, [], Decides};
 ghost use Rattle.store.specs.Agree.{Agree};
 ghost use Rattle.store.specs.Table.{limited};
-ghost use Rattle.pair.specs.Sides.{smaller, number_of, pair_model, out_number};
+ghost use Rattle.pair.specs.Sides.{smaller, number_of, pair_model, pair_formed, out_number};
 
 use super::Pair;
 use crate::Side;
@@ -58,6 +58,8 @@ impl<A: Store, B: Store> Pair<A, B> {
 // Each call matches on the side that is out: the sides are of two types, and one value for either would be a dyn that is handed out.
 impl<A: Store, B: Store> Store for Pair<A, B> {
     ghost model = { λ p. pair_model p.out (A.Store.model p.first) (B.Store.model p.second) };
+
+    ghost formed = { λ p. pair_formed p.out (A.Store.formed p.first) (B.Store.formed p.second) p.short };
 
     fn keep(&mut self, key: RowKey, words: &[u64]) -> Result<(), StoreRefusal> {
         let limit = self.limit();

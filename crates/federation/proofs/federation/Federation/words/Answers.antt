@@ -13,4 +13,4 @@ returns-in_err-count g c =
     let v : c.read.result ≡ replied (read_refused (lookup m.table c.args.cluster c.args.number) 32) (read_count m c.args.cluster c.args.number) = search rules in
     ap told_list z
     ∙ read_refused_lem (lookup m.table c.args.cluster c.args.number) c.in_err-count.field-0.0 (read_count m c.args.cluster c.args.number)
-    (λ ws e. sized_at m.table c.args.cluster c.args.number ws c.count-rows.ensures.formed.sized e) (sym c.in_err-count.was ∙ v)
+    (λ ws e. sized_at m.table c.args.cluster c.args.number ws (g.met.S.Store.formed c.args.self.now.store).sized e) (sym c.in_err-count.was ∙ v)
