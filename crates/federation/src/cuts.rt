@@ -57,7 +57,7 @@ pub(crate) fn resume<S: Store>(
     Ok(go_back(book, store, restart.places))
 }
 
-// How many checkpoints these clusters keep.
+// How many checkpoints these clusters keep: of more than eight, the byte that tells it might be too small.
 fn kept_in(clusters: &[Cluster]) -> u8
     requires { length clusters.now ≤ 8 }
     ensures { result ≡ kept_in (map group clusters.now) }

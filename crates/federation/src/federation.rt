@@ -1,4 +1,5 @@
-// A federation: its book, the store that holds the words of its checkpoints, and its forcing rule.
+// A federation: its book, the store that holds the words of its checkpoints, and its forcing rule. What a call takes are its operands as they
+// stand in a command (from and to, cluster and rank, clusters and nodes), one by one.
 
 use book::Book;
 

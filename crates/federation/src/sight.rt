@@ -1,4 +1,4 @@
-// What the calls look at before they change anything.
+// What the calls look at before they change anything. Positions are clauses here, as in the book.
 ghost use Rattle.std.specs.Prelude.{◌≡◌, ◌<◌, ◌≤◌, true, IfErr, OnOk, Some, None, vec_len};
 ghost use Rattle.law.specs.Book.{at, checkpoint_at, count as counted};
 ghost use Rattle.federation.specs.Reading.{not_kept};
@@ -55,7 +55,7 @@ pub(crate) fn may_open(book: &Book, i: usize) -> Result<(), Refusal>
     Ok(())
 }
 
-// Whether a checkpoint is kept; else there is no such cluster, or it does not keep it.
+// Whether a checkpoint is kept; else there is no such cluster, or it does not keep it. Cluster and number are the operands of read.
 pub(crate) fn is_kept(book: &Book, cluster: u8, number: u32) -> Result<(), Refusal>
     ensures accepts { OnOk result (not_kept (bare book.now) cluster number ≡ None) }
     ensures refuses { IfErr result (λ why. not_kept (bare book.now) cluster number ≡ Some why) }

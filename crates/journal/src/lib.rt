@@ -28,7 +28,8 @@ pub const SIZE: usize = 16_832;
 
 #[derive(Drop)]
 pub struct Journal<'a> {
-    // lent, so that a journal needs no memory for its records: how many of them are used is counted beside them
+    // lent, so that a journal needs no memory for its records: how many of them are used is counted beside them; a slice and no array, since
+    // a wrong size is refused
     bytes: &'a mut [u8],
     // the bytes of the records
     used: usize,

@@ -34,7 +34,7 @@ pub fn drop_row<S: Store>(store: &mut S, key: RowKey) -> Result<(), StoreRefusal
     store.discard(key)
 }
 
-// Drops every row, the first one as long as there is one.
+// Drops every row, the first one as long as there is one. What is unreachable here and below is ruled out by the clauses.
 pub fn empty<S: Store>(store: &mut S)
     ensures { S.Store.model store.new ≡ with_table (S.Store.model store.old) [] }
 {

@@ -40,6 +40,7 @@ pub fn replay<S: SidedStore, R: ForcingRule>(
     let mut federation = Federation::open(name, clusters, nodes, rule, store, heap).map_err(
         ReplayError::NotOpened,
     )?;
+    // no `?`: the federation goes back
     let Ok(mut exchanges) = Vec::with_capacity(heap, calls.len()) else {
         return Err(ReplayError::NoMemory(federation));
     };

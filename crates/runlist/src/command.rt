@@ -119,7 +119,7 @@ impl<'a> Command<'a> {
         }
     }
 
-    // The operands as numbers; none where the bytes have not the width that the letter asks for.
+    // The operands as numbers; none where the bytes have not the width that the letter asks for. No TryFrom: an error could say no more.
     pub fn operands(self) -> Option<Operands>
         ensures { result ≡ operands_of self.entry }
     {

@@ -39,7 +39,7 @@ pub trait Store {
     // What the store means.
     ghost model: { Self → Model };
 
-    // Adds a row.
+    // Adds a row. Key and words come apart: a type for both would borrow the words for the length of a call, and hold nothing more.
     fn keep(&mut self, key: RowKey, words: &[u64]) -> Result<(), StoreRefusal>
         ensures answer { result ≡ replied (keep_refusal (model self.old) key.cluster key.number words.now) tt }
         ensures after { model self.new ≡ keep_model (model self.old) key.cluster key.number words.now };
@@ -49,7 +49,7 @@ pub trait Store {
         ensures answer { result ≡ replied (drop_refusal (model self.old) key.cluster key.number) tt }
         ensures after { model self.new ≡ drop_model (model self.old) key.cluster key.number };
 
-    // Copies a row's words to the front of the buffer, and tells how many they are.
+    // Copies a row's words to the front of the buffer, which the caller lends, and tells how many they are.
     fn read(&self, key: RowKey, buffer: &mut [u64]) -> Result<usize, StoreRefusal>
         ensures answer { result ≡ replied (read_refusal (model self.now) key.cluster key.number (length buffer.old)) (read_count (model self.now) key.cluster key.number) }
         ensures buffer { buffer.new ≡ read_buffer (model self.now) key.cluster key.number buffer.old };

@@ -49,7 +49,7 @@ impl Calls {
     }
 
     // More pairs of cluster and number than a store holds, so that it fills up; and now and then a word
-    // count or a buffer that is refused.
+    // count or a buffer that is refused. No Iterator: it never ends, and whoever drives stores counts the turns.
     pub fn next(&mut self) -> Call {
         let kind = self.below(8);
         let key = RowKey {

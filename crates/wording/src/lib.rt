@@ -8,7 +8,8 @@ ghost use Rattle.wording.specs.Words.{line_of, verdict_of, again_of};
 use runlist::{Placed, RefusedAt};
 use std::alloc::{AllocError, Global};
 
-// The line of a command: its offset, its name, its operands in decimal and its word in hexadecimal.
+// The line of a command: its offset, its name, its operands in decimal and its word in hexadecimal. A string, as callers keep it; what it is
+// made of prints itself.
 pub fn line(heap: Global, placed: Placed<'_>) -> Result<String, AllocError>
     ensures { IfOk result (λ s. string_bytes s ≡ line_of placed.entry.offset (operands_of placed.entry.command)) }
 {

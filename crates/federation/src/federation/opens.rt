@@ -41,6 +41,7 @@ impl<S: Store, R: ForcingRule> Federation<S, R> {
             let why = Closed::Refused(Refusal::BadOpen);
             return Err(NotOpened { why, store, rule });
         }
+        // no `?`: store and rule go back
         let Ok(book) = Book::new(name, usize::from(clusters), nodes, heap) else {
             let why = Closed::NoMemory;
             return Err(NotOpened { why, store, rule });
