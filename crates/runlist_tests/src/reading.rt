@@ -20,7 +20,7 @@ const LETTERS: [(u8, usize); 11] = [
     (b'W', 5),
 ];
 
-// A refusal's number and its offset.
+// A refusal's number and its offset: what is tested are the numbers of the format, so they stand here as numbers.
 fn by_number(refused: RefusedAt) -> (u8, usize) {
     (refused.why.number(), refused.offset)
 }
