@@ -7,22 +7,6 @@ use Rattle.book.specs.View.{view, group, groups}
 use Rattle.federation.proofs.Cutting.{from_fewer}
 use Rattle.federation.proofs.cuts.drop_checkpoints.Goals as goal
 
-pub kept_in-before-requires : goal.kept_in-before-requires
-kept_in-before-requires g c =
-    let b = c.args.book.now in
-    let few = b.few in
-    let len = b.clusters.ok.0 in
-    let many = ap length c.as_slice.ensures.value in
-    omega arith
-
-pub kept_in-requires : goal.kept_in-requires
-kept_in-requires g c =
-    let b = c.from_bounds.new.book in
-    let few = b.few in
-    let len = b.clusters.ok.0 in
-    let many = ap length c.as_slice-2.ensures.value in
-    omega arith
-
 pub overflow_sub-result : goal.overflow_sub-result
 overflow_sub-result g c =
     let b = c.args.book.now in

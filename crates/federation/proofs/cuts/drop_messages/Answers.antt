@@ -21,14 +21,3 @@ overflow_sub-result c =
     let fewer = log_from_short c.args.bounds.now (vec_items b.log) in
     let many = ap length c.log_from.ensures.items in
     omega arith
-
-pub overflow_cast-result : goal.overflow_cast-result
-overflow_cast-result c = let short = c.args.book.now.short in omega arith
-
-pub returns : goal.returns
-returns c =
-    let b = c.args.book.now in
-    record {
-      value = let len = b.log.ok.0 in let left = c.log_from.new.log.ok.0 in omega arith;
-      after = λ m. ap (λ (ms : List Logged). with_log (view b m) ms) c.log_from.ensures.items;
-    }

@@ -5,12 +5,6 @@ use Rattle.book.proofs.Rising.{can_end_lem}
 use Rattle.federation.proofs.Allowed.{open_ends, few-shown}
 use Rattle.federation.proofs.rounds.next_number.Goals as goal
 
-pub offset_bounds-cluster-i : goal.offset_bounds-cluster-i
-offset_bounds-cluster-i c = let few = few-shown c.args.book.now c.args.cluster c.requires.within in omega arith
-
-pub bounds-cluster-i : goal.bounds-cluster-i
-bounds-cluster-i c = let few = few-shown c.args.book.now c.args.cluster c.requires.within in omega arith
-
 number_is : (c : goal.After-result-1) → entry c.cluster.result.now.row c.from-i.result ≡ number (bare c.args.book.now) c.args.cluster
 number_is c = ap (λ (x : Group). entry x.row c.from-i.result) c.cluster.ensures ∙ ap (λ (i : ℕ). number (bare c.args.book.now) i) c.from-i.ensures
 
@@ -19,6 +13,3 @@ overflow_add-result c =
     let ends : number (bare c.args.book.now) c.args.cluster < last_number = (can_end_lem true _ _ refl (open_ends c.args.book.now c.args.cluster c.requires.within c.requires.opened)).1 in
     let is : entry c.cluster.result.now.row c.from-i.result ≡ number (bare c.args.book.now) c.args.cluster = number_is c in
     omega arith
-
-pub returns : goal.returns
-returns c = add-one _ ∙ ap suc (number_is c)

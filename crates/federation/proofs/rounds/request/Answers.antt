@@ -10,12 +10,6 @@ use Rattle.book.specs.View.{view, bare}
 use Rattle.federation.proofs.Allowed.{request_allowed, within, may_open, done, tells}
 use Rattle.federation.proofs.rounds.request.Goals as goal
 
-pub cluster-requires : goal.cluster-requires
-cluster-requires c =
-    let b = c.args.book.now in
-    let ok = request_allowed (bare b) c.args.cluster c.args.rank (c.in_ok-may_request.ensures.accepts) in
-    subst (λ (i : ℕ). i < vec_len b.clusters) (sym c.from-i.ensures) (within b c.args.cluster ok.0)
-
 pub set_round-requires : goal.set_round-requires
 set_round-requires c =
     let b = c.args.book.now in
