@@ -11,39 +11,6 @@ use Rattle.book.proofs.Placing.{both_is}
 use Rattle.federation.proofs.Allowed.{send_allowed, within, few-shown, done, tells}
 use Rattle.federation.proofs.messages.send.Goals as goal
 
-pub cluster-requires : goal.cluster-requires
-cluster-requires c =
-    let b = c.args.book.now in
-    let ok = send_allowed (bare b) c.args.from c.args.to (c.in_ok-may_send.ensures.accepts) in
-    let near = within b c.args.from ok.from in
-    omega arith
-
-pub offset_bounds-cluster-i : goal.offset_bounds-cluster-i
-offset_bounds-cluster-i c =
-    let b = c.args.book.now in
-    let ok = send_allowed (bare b) c.args.from c.args.to (c.in_ok-may_send.ensures.accepts) in
-    let near = few-shown b c.args.from (within b c.args.from ok.from) in
-    omega arith
-
-pub bounds-cluster-i : goal.bounds-cluster-i
-bounds-cluster-i c =
-    let b = c.args.book.now in
-    let ok = send_allowed (bare b) c.args.from c.args.to (c.in_ok-may_send.ensures.accepts) in
-    let near = few-shown b c.args.from (within b c.args.from ok.from) in
-    omega arith
-
-pub log_message-requires : goal.log_message-requires
-log_message-requires c =
-    let b = c.args.book.now in
-    let ok = send_allowed (bare b) c.args.from c.args.to (c.in_ok-may_send.ensures.accepts) in
-    let len = b.log.ok.0 in
-    let free = ok.free in
-    record {
-      addressed = both_is _ _ (both_is _ _ (lt-ltb _ _ (within b c.args.from ok.from)) (lt-ltb _ _ (within b c.args.to ok.to))) (ap not ok.apart);
-      free = omega arith;
-      numbered = ok.numbered;
-    }
-
 pub returns : goal.returns
 returns c =
     let b = c.args.book.now in

@@ -6,26 +6,11 @@ use Rattle.federation.proofs.Allowed.{within, few-shown}
 use Rattle.federation.proofs.Restarting.{fault_allowed, fault_says, fault_leaves, slice_len, slice_few}
 use Rattle.federation.proofs.restarts.fault.Goals as goal
 
-pub begin-restart-requires : goal.begin-restart-requires
-begin-restart-requires c =
-    let b = c.args.book.now in
-    let ok = fault_allowed (bare b) c.args.cluster (sym c.in_ok-may_fault.ensures.accepts) in
-    let near = within b c.args.cluster ok.0 in
-    let len = slice_len b _ c.as_slice.ensures.value in
-    record { within = omega arith; few = slice_few b _ c.as_slice.ensures.value }
-
 pub overflow_add-book : goal.overflow_add-book
 overflow_add-book c =
     let ok = fault_allowed (bare c.args.book.now) c.args.cluster (sym c.in_ok-may_fault.ensures.accepts) in
     let same = ap (λ (x : Shown). x.restarts) (c.drop_rounds.ensures (record { table = []; capacity = 0; full = 0 })) in
     let few = ok.1 in
-    omega arith
-
-pub bounds-restart-i : goal.bounds-restart-i
-bounds-restart-i c =
-    let b = c.args.book.now in
-    let ok = fault_allowed (bare b) c.args.cluster (sym c.in_ok-may_fault.ensures.accepts) in
-    let near = few-shown b c.args.cluster (within b c.args.cluster ok.0) in
     omega arith
 
 pub returns : goal.returns
