@@ -9,15 +9,6 @@ use Rattle.book.proofs.Placing.{own_at, placed_set}
 use Rattle.pruning.proofs.Cutting.{left_with, pruned_more}
 use Rattle.pruning.proofs.cut.prune.Goals as goal
 
-pub loop-cluster-init : goal.loop-cluster-init
-loop-cluster-init g c =
-    let b = c.args.book.now in
-    let m = g.S.Store.model c.args.store.now in
-    let items = c.deref_mut-cluster-items.ensures.value in (
-      ap (λ (cs : List Cluster). left_with (g.C.Cut.change c.args.cut.now) (g.C.Cut.gone c.args.cut.now) b m cs m) items,
-      ap (placed 0) items ∙ b.placed,
-    )
-
 pub loop-cluster-preserved : goal.loop-cluster-preserved
 loop-cluster-preserved g c =
     let change = g.C.Cut.change c.args.cut.now in
@@ -37,11 +28,3 @@ loop-cluster-preserved g c =
           ∙ ap (λ (k : ℕ). prune change gone k (view c.args.book.now m)) (sym (add-one i)),
       placed_set 0 cs i was c.prune_cluster.new.cluster c.loop-cluster.invariant.1 (omega arith) read cut.own,
     )
-
-pub invariant_of-book-clause-placed : goal.invariant_of-book-clause-placed
-invariant_of-book-clause-placed g c =
-    let b = c.args.book.now in
-    let len = b.clusters.ok.0 in
-    let long = c.loop-cluster.auto.cluster-items in
-    let same = c.deref_mut-cluster-items.ensures.len in
-    ap (placed 0) (with_items_is b.clusters c.loop-cluster.cluster-items (omega arith)) ∙ c.loop-cluster.invariant.1

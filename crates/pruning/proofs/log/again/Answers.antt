@@ -24,6 +24,3 @@ loop-logged-preserved c =
           ap (λ v. v.items) w.ids-is
           ∙ picked_same id_of goes c.args.log.now c.loop-logged.logged-index (c.loop-logged.ids.items) _ c.loop-logged.invariant c.loop-logged-test.true (sym c.goes_again.ensures ∙ w.if-goes_again.false)
     ]
-
-pub returns : goal.returns
-returns c = c.loop-logged.invariant ∙ ap (again c.args.places.now) (take_all c.loop-logged.logged-index c.args.log.now c.loop-logged-test.false)

@@ -16,18 +16,3 @@ loop-logged-preserved c =
     let more = c.loop-logged-test.true in
     ap (λ (z : Logged). set ys i z) c.unreceive.ensures
     ∙ map_over_more (unreceived c.args.places.now) xs ys i _ c.loop-logged-test.true c.loop-logged.invariant (get_or_default ys i _ _ (omega arith))
-
-pub returns : goal.returns
-returns c =
-    let log = c.drop_undone.new.log in
-    let xs = c.deref_mut-logged-items.result.now in
-    let len = log.ok.0 in
-    let long = c.loop-logged.auto.logged-items in
-    let same = c.deref_mut-logged-items.ensures.len in
-    let f = unreceived c.args.places.now in
-    record {
-      items = with_items_is log c.loop-logged.logged-items (omega arith)
-          ∙ c.loop-logged.invariant ∙ over_all f xs c.loop-logged.logged-index c.loop-logged-test.false
-          ∙ ap (map f) (c.deref_mut-logged-items.ensures.value ∙ c.drop_undone.ensures.items);
-      capacity = c.drop_undone.ensures.capacity;
-    }

@@ -7,12 +7,6 @@ use Rattle.book.proofs.Groups.{group_at, group-set}
 use Rattle.book.proofs.Placing.{own_at, placed_set}
 use Rattle.book.proofs.book.Book.commit.Goals as goal
 
-pub commit-requires : goal.commit-requires
-commit-requires c =
-    let b = c.args.self.now in
-    let len = b.clusters.ok.0 in
-    subst (λ (g : Group). is_some g.round ≡ true) (sym (group_at (vec_items b.clusters) c.args.i c.index_mut.result.now (omega arith) c.index_mut.ensures.value)) c.requires.opened
-
 pub invariant_of-self-clause-placed : goal.invariant_of-self-clause-placed
 invariant_of-self-clause-placed c =
     let b = c.args.self.now in

@@ -31,10 +31,6 @@ pub hear-requires : goal.hear-requires
 hear-requires c =
     ap₂ (λ (i j : ℕ). is_between (vec_len c.args.self.now.clusters) i j) c.from.ensures c.from-to.ensures ∙ between-read c.args.self.now c.args.place c.index.result.now c.requires c.index.ensures
 
-pub receive-requires : goal.receive-requires
-receive-requires c =
-    subst (λ l. c.args.place < vec_len l) (sym c.hear.ensures.log) c.requires
-
 -- the receiver changed, then the log: the protocol's delivery
 together : (B H : Shown) (M : Message) (to from n receipt : ℕ) → to ≡ M.to → from ≡ M.from → n ≡ M.number → receipt ≡ number B M.to → H ≡ with_cluster B to (heard_from from n (at B to)) → with_log H (map (received M.id receipt) B.log) ≡ deliver B M
 together B H M to from n receipt e f g r h =

@@ -8,9 +8,6 @@ use Rattle.book.proofs.Messages.{is_between_lem}
 use Rattle.book.proofs.Placing.{own_at, placed_set}
 use Rattle.book.proofs.book.Book.hear.Goals as goal
 
-pub index_mut-requires : goal.index_mut-requires
-index_mut-requires c = (is_between_lem (vec_len c.args.self.now.clusters) c.args.from c.args.i c.requires).to
-
 pub hear-requires : goal.hear-requires
 hear-requires c =
     let b = c.args.self.now in

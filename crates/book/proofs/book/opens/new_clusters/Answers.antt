@@ -8,11 +8,6 @@ use Rattle.book.specs.View.{group}
 use Rattle.book.proofs.Placing.{placed_push}
 use Rattle.book.proofs.book.opens.new_clusters.Goals as goal
 
-pub loop-i-init : goal.loop-i-init
-loop-i-init c =
-    let none = c.new-clusters.ensures.items in
-    (c.new-clusters.ensures.len, ap (map group) none, ap (placed 0) none)
-
 pub loop-i-preserved : goal.loop-i-preserved
 loop-i-preserved c =
     let new = c.in_ok-new.field-0 in

@@ -13,18 +13,6 @@ use Rattle.book.proofs.cluster.Cluster.commit.Goals as goal
 abbrev shows : List ℕ → List Checkpoint → Group
 shows row ks = record { row = row; kept = ks; round = None }
 
-pub overflow_add-number : goal.overflow_add-number
-overflow_add-number c =
-    let was = c.args.self.now in
-    let e = can_end_lem (is_some was.round) _ _ c.requires was.ends in
-    omega (arith, e.1)
-
-pub push_reserved-requires : goal.push_reserved-requires
-push_reserved-requires c =
-    let was = c.args.self.now in
-    let e = can_end_lem (is_some was.round) _ _ c.requires was.ends in
-    omega (arith, e.0, was.room)
-
 pub invariant_of-self : goal.invariant_of-self
 invariant_of-self c =
     let was = c.args.self.now in
