@@ -1,5 +1,5 @@
 -- no cluster keeps more than it did, so the difference does not go below 0
-use Rattle.std.proofs.Common.{◌≡◌, ◌≤◌, List, map, length, vec_len, ap, ◌∙◌, arith}
+use Rattle.std.proofs.Common.{◌≡◌, ◌≤◌, List, map, vec_len, ap, ◌∙◌, arith}
 use Rattle.law.specs.Book.{Book as Shown}
 use Rattle.law.specs.Trials.{kept_in, from_bounds}
 use Rattle.book.specs.declared.cluster.Cluster.{Cluster}

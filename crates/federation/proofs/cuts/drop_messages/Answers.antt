@@ -1,8 +1,5 @@
 -- the log holds at most 128 messages and does not grow
-use Rattle.std.proofs.Common.{List, length, vec_items, ap, arith}
-use Rattle.law.specs.declared.Logged.{Logged}
-use Rattle.law.specs.Book.{with_log}
-use Rattle.book.specs.View.{view}
+use Rattle.std.proofs.Common.{length, vec_items, ap, arith}
 use Rattle.pruning.proofs.LogStays.{log_from_short}
 use Rattle.federation.proofs.Cutting.{fit-left, from_left}
 use Rattle.federation.proofs.cuts.drop_messages.Goals as goal

@@ -1,10 +1,5 @@
 -- what is left of the log is no longer than it was, and as well ordered
-use Rattle.std.proofs.Common.{List, length, None, vec_items, ap, ◌∙◌, arith}
-use Rattle.law.specs.declared.Logged.{Logged}
-use Rattle.law.specs.Book.{with_log, with_restart}
-use Rattle.law.specs.Restarts.{again}
-use Rattle.book.specs.View.{view}
-use Rattle.pruning.proofs.LogStays.{log-back-short}
+use Rattle.std.proofs.Common.{vec_items}
 use Rattle.federation.proofs.Cutting.{fit-left, back-left}
 use Rattle.federation.proofs.cuts.undo_messages.Goals as goal
 

@@ -1,5 +1,4 @@
-use Rattle.std.proofs.Common.{◌≡◌, ℕ, not, Result, ap, ◌∙◌, arith}
-use Rattle.std.proofs.lemmas.Bool.{lt-ltb}
+use Rattle.std.proofs.Common.{◌≡◌, ℕ, Result, ap, ◌∙◌}
 use Rattle.refusal.specs.declared.Refusal.{Refusal}
 use Rattle.store.specs.Table.{Model}
 use Rattle.law.specs.declared.Sent.{Sent}
@@ -7,8 +6,7 @@ use Rattle.refusal.specs.Answers.{replied}
 use Rattle.law.specs.Book.{Cluster as Group, number, entry}
 use Rattle.law.specs.Messages.{send_refusal, sent}
 use Rattle.book.specs.View.{view, bare}
-use Rattle.book.proofs.Placing.{both_is}
-use Rattle.federation.proofs.Allowed.{send_allowed, within, few-shown, done, tells}
+use Rattle.federation.proofs.Allowed.{done, tells}
 use Rattle.federation.proofs.messages.send.Goals as goal
 
 pub returns : goal.returns

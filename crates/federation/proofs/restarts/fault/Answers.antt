@@ -3,7 +3,7 @@ use Rattle.std.proofs.Common.{[], map, sym, ap, arith}
 use Rattle.law.specs.Book.{Book as Shown}
 use Rattle.book.specs.View.{view, bare, group}
 use Rattle.federation.proofs.Allowed.{within, few-shown}
-use Rattle.federation.proofs.Restarting.{fault_allowed, fault_says, fault_leaves, slice_len, slice_few}
+use Rattle.federation.proofs.Restarting.{fault_allowed, fault_says, fault_leaves}
 use Rattle.federation.proofs.restarts.fault.Goals as goal
 
 pub overflow_add-book : goal.overflow_add-book

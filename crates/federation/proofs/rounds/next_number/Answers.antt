@@ -1,8 +1,8 @@
-use Rattle.std.proofs.Common.{◌≡◌, ℕ, suc, ◌<◌, true, refl, ap, ◌∙◌, add-one, arith}
+use Rattle.std.proofs.Common.{◌≡◌, ℕ, ◌<◌, true, refl, ap, ◌∙◌, arith}
 use Rattle.law.specs.Book.{Cluster as Group, number, entry, last_number}
 use Rattle.book.specs.View.{bare}
 use Rattle.book.proofs.Rising.{can_end_lem}
-use Rattle.federation.proofs.Allowed.{open_ends, few-shown}
+use Rattle.federation.proofs.Allowed.{open_ends}
 use Rattle.federation.proofs.rounds.next_number.Goals as goal
 
 number_is : (c : goal.After-result-1) → entry c.cluster.result.now.row c.from-i.result ≡ number (bare c.args.book.now) c.args.cluster

@@ -1,12 +1,9 @@
 -- one cluster after another
-use Rattle.std.proofs.Common.{◌≡◌, ℕ, List, get_or, vec_items, sym, ap, ◌∙◌, add-one, arith}
-use Rattle.std.proofs.lemmas.List.{with_items_is}
+use Rattle.std.proofs.Common.{◌≡◌, ℕ, get_or, vec_items, sym, ap, ◌∙◌, add-one, arith}
 use Rattle.law.specs.Restarts.{discard, prune}
-use Rattle.book.specs.declared.cluster.Cluster.{Cluster}
-use Rattle.book.specs.Placed.{placed}
 use Rattle.book.specs.View.{view, group}
 use Rattle.book.proofs.Placing.{own_at, placed_set}
-use Rattle.pruning.proofs.Cutting.{left_with, pruned_more}
+use Rattle.pruning.proofs.Cutting.{pruned_more}
 use Rattle.pruning.proofs.cut.prune.Goals as goal
 
 pub loop-cluster-preserved : goal.loop-cluster-preserved

@@ -1,7 +1,6 @@
 -- one message more: its id behind the others if it goes again
 use Rattle.std.proofs.Common.{length, sym, ap, ◌∙◌, arith, lit<}
-use Rattle.std.proofs.lemmas.List.{take_all}
-use Rattle.law.specs.Restarts.{to_go_again, again}
+use Rattle.law.specs.Restarts.{to_go_again}
 use Rattle.book.specs.Rules.{id_of}
 use Rattle.pruning.proofs.Picking.{picked_few, picked_more, picked_same}
 use Rattle.pruning.proofs.log.again.Goals as goal

@@ -1,10 +1,9 @@
 -- all messages together are the whole log
-use Rattle.std.proofs.Common.{map, set, ap, ◌∙◌, arith}
-use Rattle.std.proofs.lemmas.List.{with_items_is, get_or_default}
+use Rattle.std.proofs.Common.{set, ap, ◌∙◌, arith}
+use Rattle.std.proofs.lemmas.List.{get_or_default}
 use Rattle.std.proofs.lemmas.List.Edits.{map_over_more}
 use Rattle.law.specs.declared.Logged.{Logged}
 use Rattle.law.specs.Restarts.{unreceived}
-use Rattle.book.proofs.Dropping.{over_all}
 use Rattle.pruning.proofs.log.log_back.Goals as goal
 
 pub loop-logged-preserved : goal.loop-logged-preserved

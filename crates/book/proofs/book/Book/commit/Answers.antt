@@ -1,9 +1,9 @@
 -- the cluster at the position has it as its own
-use Rattle.std.proofs.Common.{◌≡◌, ℕ, true, is_some, vec_items, sym, ap, ◌∙◌, subst, arith}
-use Rattle.law.specs.Book.{Cluster as Group, with_clusters}
+use Rattle.std.proofs.Common.{◌≡◌, ℕ, vec_items, ap, ◌∙◌, arith}
+use Rattle.law.specs.Book.{with_clusters}
 use Rattle.law.specs.Rounds.{saved}
 use Rattle.book.specs.View.{view, group}
-use Rattle.book.proofs.Groups.{group_at, group-set}
+use Rattle.book.proofs.Groups.{group-set}
 use Rattle.book.proofs.Placing.{own_at, placed_set}
 use Rattle.book.proofs.book.Book.commit.Goals as goal
 

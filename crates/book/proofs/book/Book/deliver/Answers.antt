@@ -1,5 +1,5 @@
 -- the message at the place goes between clusters that exist, and so its receiver can be changed
-use Rattle.std.proofs.Common.{◌≡◌, ℕ, ◌<◌, map, vec_items, vec_len, sym, ap, ◌∙◌, subst, ap₂, arith}
+use Rattle.std.proofs.Common.{◌≡◌, ℕ, map, vec_items, vec_len, ap, ◌∙◌, ap₂, arith}
 use Rattle.law.specs.declared.Message.{Message}
 use Rattle.law.specs.Book.{Book as Shown, Cluster as Group, with_log, with_cluster, entry, number, at}
 use Rattle.law.specs.Messages.{receive as received, deliver}

@@ -1,10 +1,8 @@
-use Rattle.std.proofs.Common.{◌≡◌, List, map, get_or, vec_items, ap, ◌∙◌, sym, refl, arith}
-use Rattle.std.proofs.lemmas.List.{with_items_is, map-set, get_or-map, length-map}
+use Rattle.std.proofs.Common.{◌≡◌, map, get_or, vec_items, ap, ◌∙◌, sym, refl, arith}
+use Rattle.std.proofs.lemmas.List.{map-set, get_or-map, length-map}
 use Rattle.std.proofs.lemmas.List.Edits.{map_over_more}
-use Rattle.law.specs.Book.{Cluster as Group, with_clusters}
-use Rattle.book.specs.Placed.{placed}
-use Rattle.book.specs.View.{view, group}
-use Rattle.book.proofs.Dropping.{quiet, all_quiet, over_all}
+use Rattle.book.specs.View.{group}
+use Rattle.book.proofs.Dropping.{quiet}
 use Rattle.book.proofs.Placing.{placed_set}
 use Rattle.book.proofs.book.Book.drop_rounds.Goals as goal
 

@@ -1,14 +1,11 @@
 -- the message that enters is newer than all in the log, and goes between two clusters that exist
-use Rattle.std.proofs.Common.{◌≡◌, ℕ, ◌+◌, true, List, [], ◌∷◌, ◌++◌, vec_items, vec_len, sym, refl, ap, ◌∙◌, subst, ap₂, add-one, arith}
+use Rattle.std.proofs.Common.{◌≡◌, ◌+◌, true, List, [], ◌∷◌, ◌++◌, vec_items, vec_len, sym, refl, subst, arith}
 use Rattle.std.specs.Ordering.{nat_cmp}
 use Rattle.ordered.specs.Seek.{ascending}
 use Rattle.law.specs.declared.Logged.{Logged}
-use Rattle.law.specs.Book.{Cluster as Group, with_log, with_next_id, entry, number}
+use Rattle.law.specs.Book.{entry}
 use Rattle.law.specs.Messages.{undelivered}
 use Rattle.book.specs.Rules.{id_of, ids_below, addressed}
-use Rattle.book.specs.View.{view}
-use Rattle.book.proofs.Groups.{group_at}
-use Rattle.book.proofs.Messages.{is_between_lem}
 use Rattle.book.proofs.Rising.{ascending_push, ids_below_lem, ids_push, addressed_push}
 use Rattle.book.proofs.book.Book.log_message.Goals as goal
 
