@@ -19,7 +19,3 @@ loop-from-preserved c =
     step_same (map group c.args.clusters.now) (few-shown c.args.clusters.now c.requires) c.loop-from.restart c.carry.new.restart c.in-Some.from c.in-Some.to
     c.in-Some.ensures.value c.carry.ensures.after
     ∙ c.loop-from.invariant
-
-pub returns : goal.returns
-returns c =
-    sym (drained_none (map group c.args.clusters.now) (few-shown c.args.clusters.now c.requires) c.loop-from.restart c.in_default.ensures.value) ∙ c.loop-from.invariant

@@ -17,11 +17,3 @@ loop-failed-preserved c =
       c.trial.ensures.same ∙ c.loop-failed.invariant.1,
       long,
     )
-
-pub returns : goal.returns
-returns c =
-    let all : c.loop-failed.failed ≡ length c.args.clusters.now = omega arith in
-    record {
-      value = c.loop-failed.invariant.0 ∙ ap (λ (k : ℕ). lowest k (map group c.args.clusters.now)) all;
-      same = c.loop-failed.invariant.1;
-    }
