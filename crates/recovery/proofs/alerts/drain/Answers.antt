@@ -1,9 +1,9 @@
 -- each alert that is carried leads to the same end, and nearer to it
-use Rattle.std.proofs.Common.{◌≤◌, List, map, length, sym, ◌∙◌, arith}
+use Rattle.std.proofs.Common.{◌≤◌, List, map, length, ◌∙◌, arith}
 use Rattle.std.proofs.lemmas.List.{length-map}
 use Rattle.book.specs.declared.Cluster.{Cluster}
 use Rattle.book.specs.View.{group}
-use Rattle.recovery.proofs.Drains.{step_same, step_less, drained_none}
+use Rattle.recovery.proofs.Drains.{step_same, step_less}
 use Rattle.recovery.proofs.alerts.drain.Goals as goal
 
 few-shown : (cs : List Cluster) → length cs ≤ 8 → length (map group cs) ≤ 8
