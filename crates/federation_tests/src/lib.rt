@@ -1,0 +1,15 @@
+// Tests of the calls of a federation, with expected values written by hand from docs/PROTOCOL.md and docs/FORMAT.md.
+#![tactic(auto)]
+
+#[cfg(test)]
+mod chains;
+#[cfg(test)]
+mod messages;
+#[cfg(test)]
+mod opening;
+#[cfg(test)]
+mod restarts;
+#[cfg(test)]
+mod rig;
+#[cfg(test)]
+mod rounds;

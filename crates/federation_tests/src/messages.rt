@@ -1,0 +1,212 @@
+// Messages: send and arrive, and the two forcing rules.
+use crate::rig::{deliver, fault, open, open_over, restart, round};
+use law::{Arrived, Noted, Sent};
+use refusal::Refusal;
+use rule::{Always, ForcingRule, OnNews};
+use slots::Slots;
+use std::process::Abort;
+use std::test::Fail;
+use store::Store;
+
+// Ids are counted over all clusters, and the number is the sender's at sending.
+#[test]
+fn ids_and_numbers(rt: HostRuntime) -> Result<(), Fail> {
+    let mut federation = open(rt.alloc(), 3, 1)?;
+    assert_eq!(rt; federation.send(0, 1, 7), Ok(Sent { id: 1, number: 1 }));
+    assert_eq!(rt;
+        round(&mut federation, 2, &[5]),
+        Ok(Noted::Committed(2, None))
+    );
+    assert_eq!(rt;
+        round(&mut federation, 2, &[6]),
+        Ok(Noted::Committed(3, None))
+    );
+    assert_eq!(rt; federation.send(2, 1, 8), Ok(Sent { id: 2, number: 3 }));
+    assert_eq!(rt; federation.send(1, 0, 9), Ok(Sent { id: 3, number: 1 }));
+    Ok(())
+}
+
+// No such cluster, both the same, a restart is open, a round is open at the sender: in this order. A refused send takes no id.
+#[test]
+fn refused_sends(rt: HostRuntime) -> Result<(), Fail> {
+    let mut federation = open(rt.alloc(), 2, 1)?;
+    assert_eq!(rt;
+        federation.send(2, 2, 7),
+        Err(Refusal::NoCluster),
+        "before both the same"
+    );
+    assert_eq!(rt;
+        federation.send(2, 0, 7),
+        Err(Refusal::NoCluster),
+        "the sender"
+    );
+    assert_eq!(rt;
+        federation.send(0, 2, 7),
+        Err(Refusal::NoCluster),
+        "the receiver"
+    );
+    assert_eq!(rt; federation.request(0, 0), Ok(0));
+    assert_eq!(rt;
+        federation.send(0, 2, 7),
+        Err(Refusal::NoCluster),
+        "before the round"
+    );
+    assert_eq!(rt;
+        federation.send(0, 0, 7),
+        Err(Refusal::SameCluster),
+        "before the round"
+    );
+    assert_eq!(rt; federation.send(0, 1, 7), Err(Refusal::RoundOpen));
+    assert_eq!(rt;
+        federation.send(1, 0, 7),
+        Ok(Sent { id: 1, number: 1 }),
+        "the receiver's round is no hindrance"
+    );
+    let ticket = fault(&mut federation, 0)?;
+    assert_eq!(rt; federation.send(0, 2, 7), Err(Refusal::NoCluster));
+    assert_eq!(rt; federation.send(1, 1, 7), Err(Refusal::SameCluster));
+    assert_eq!(rt; federation.send(1, 0, 7), Err(Refusal::RestartOpen));
+    ticket.give_up();
+    Ok(())
+}
+
+// No such rank, message not in the log, delivered already, a round is open at the receiver: in this order.
+#[test]
+fn refused_arrivals(rt: HostRuntime) -> Result<(), Fail> {
+    let mut federation = open(rt.alloc(), 2, 2)?;
+    assert_eq!(rt;
+        federation.arrive(1, 2),
+        Err(Refusal::NoRank),
+        "before the log"
+    );
+    assert_eq!(rt; federation.arrive(1, 0), Err(Refusal::NotInLog));
+    assert_eq!(rt; federation.arrive(0, 0), Err(Refusal::NotInLog));
+    assert_eq!(rt; federation.send(0, 1, 7), Ok(Sent { id: 1, number: 1 }));
+    assert_eq!(rt; federation.send(0, 1, 8), Ok(Sent { id: 2, number: 1 }));
+    assert_eq!(rt; deliver(&mut federation, 1, 1, &[5, 6]), Ok(2));
+    assert_eq!(rt; federation.request(1, 0), Ok(0));
+    assert_eq!(rt;
+        federation.arrive(2, 2),
+        Err(Refusal::NoRank),
+        "before the round"
+    );
+    assert_eq!(rt;
+        federation.arrive(3, 0),
+        Err(Refusal::NotInLog),
+        "before the round"
+    );
+    assert_eq!(rt;
+        federation.arrive(1, 0),
+        Err(Refusal::Delivered),
+        "before the round"
+    );
+    assert_eq!(rt; federation.arrive(2, 0), Err(Refusal::RoundOpen));
+    let ticket = fault(&mut federation, 0)?;
+    assert_eq!(rt;
+        federation.arrive(3, 2),
+        Err(Refusal::NoRank),
+        "before the restart"
+    );
+    assert_eq!(rt;
+        federation.arrive(3, 0),
+        Err(Refusal::RestartOpen),
+        "before the log"
+    );
+    assert_eq!(rt;
+        federation.arrive(1, 0),
+        Err(Refusal::RestartOpen),
+        "before delivered"
+    );
+    assert_eq!(rt; federation.arrive(2, 0), Err(Refusal::RestartOpen));
+    ticket.give_up();
+    Ok(())
+}
+
+// A message that waits for a forced checkpoint is not yet delivered, and a copy of it finds the round open.
+#[test]
+fn a_copy_of_a_waiting_message_is_refused(rt: HostRuntime) -> Result<(), Fail> {
+    let mut federation = open(rt.alloc(), 2, 1)?;
+    assert_eq!(rt; federation.send(0, 1, 7), Ok(Sent { id: 1, number: 1 }));
+    assert_eq!(rt; federation.arrive(1, 0), Ok(Arrived::Forced(2)));
+    assert_eq!(rt; federation.arrive(1, 0), Err(Refusal::RoundOpen));
+    assert_eq!(rt;
+        federation.answer(1, 0, 9),
+        Ok(Noted::Committed(2, Some(1))),
+        "it is delivered once"
+    );
+    assert_eq!(rt; federation.arrive(1, 0), Err(Refusal::Delivered));
+    Ok(())
+}
+
+// A late copy of a message that was delivered is refused, also after later checkpoints of both clusters; once a collect has dropped the
+// message from the log, a copy of it is of no message there.
+#[test]
+fn a_late_copy_is_refused(rt: HostRuntime) -> Result<(), Fail> {
+    let mut federation = open(rt.alloc(), 2, 1)?;
+    assert_eq!(rt; federation.send(0, 1, 7), Ok(Sent { id: 1, number: 1 }));
+    assert_eq!(rt; deliver(&mut federation, 1, 1, &[5]), Ok(2));
+    assert_eq!(rt; federation.arrive(1, 0), Err(Refusal::Delivered));
+    assert_eq!(rt;
+        round(&mut federation, 0, &[6]),
+        Ok(Noted::Committed(2, None))
+    );
+    assert_eq!(rt;
+        round(&mut federation, 1, &[7]),
+        Ok(Noted::Committed(3, None))
+    );
+    assert_eq!(rt; federation.arrive(1, 0), Err(Refusal::Delivered));
+    assert_eq!(rt; federation.collect()?.messages, 1);
+    assert_eq!(rt; federation.arrive(1, 0), Err(Refusal::NotInLog));
+    Ok(())
+}
+
+// A late copy of a message whose sending is undone is of no message in the log; the id is not given again.
+#[test]
+fn a_copy_of_an_undone_message_is_refused(rt: HostRuntime) -> Result<(), Fail> {
+    let mut federation = open(rt.alloc(), 2, 1)?;
+    assert_eq!(rt; federation.send(0, 1, 7), Ok(Sent { id: 1, number: 1 }));
+    let resumed = restart(&mut federation, 0)?;
+    assert_eq!(rt; resumed.places.as_slice(), [1, 0].as_slice());
+    assert_eq!(rt; resumed.ids.len(), 0);
+    assert_eq!(rt; federation.arrive(1, 0), Err(Refusal::NotInLog));
+    assert_eq!(rt; federation.send(0, 1, 7), Ok(Sent { id: 2, number: 1 }));
+    Ok(())
+}
+
+// Two messages sent at number 1, of which the second arrives first and forces a checkpoint under both rules.
+fn overtaken<S: Store, R: ForcingRule>(
+    rt: &impl Abort,
+    federation: &mut federation::Federation<S, R>,
+) {
+    assert_eq!(rt; federation.send(0, 1, 7), Ok(Sent { id: 1, number: 1 }));
+    assert_eq!(rt; federation.send(0, 1, 8), Ok(Sent { id: 2, number: 1 }));
+    assert_eq!(rt; federation.arrive(2, 0), Ok(Arrived::Forced(2)));
+    assert_eq!(rt;
+        federation.answer(1, 0, 9),
+        Ok(Noted::Committed(2, Some(2)))
+    );
+}
+
+// The late older message is no news, and is delivered at once.
+#[test]
+fn on_news_lets_an_older_message_pass(rt: HostRuntime) -> Result<(), Fail> {
+    let mut federation = open_over(rt.alloc(), 2, 1, OnNews, Slots::new(rt.alloc())?)?;
+    overtaken(&rt, &mut federation);
+    assert_eq!(rt; federation.arrive(1, 0), Ok(Arrived::Delivered(2)));
+    assert_eq!(rt; federation.read(1, 3).err(), Some(Refusal::NotKept));
+    Ok(())
+}
+
+// The rule that always forces has it wait for a checkpoint, too.
+#[test]
+fn always_forces_before_an_older_message(rt: HostRuntime) -> Result<(), Fail> {
+    let mut federation = open_over(rt.alloc(), 2, 1, Always, Slots::new(rt.alloc())?)?;
+    overtaken(&rt, &mut federation);
+    assert_eq!(rt; federation.arrive(1, 0), Ok(Arrived::Forced(3)));
+    assert_eq!(rt;
+        federation.answer(1, 0, 10),
+        Ok(Noted::Committed(3, Some(1)))
+    );
+    assert_eq!(rt; federation.read(1, 3)?.as_slice(), [10].as_slice());
+    Ok(())
+}
