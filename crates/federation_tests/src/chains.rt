@@ -1,8 +1,11 @@
 // Restarts in which one cluster calls back the next.
-use crate::rig::{deliver, fault, finish, open, restart, resume, round};
+use crate::rig::{
+    deliver, fault, finish, moved, open, reads, restart, resume, round, sent, stays, told,
+};
 use federation::{Faulted, Federation, Ticket, Travelling};
-use law::{Arrived, Carried, Noted, Sent};
+use law::Noted::Committed;
 use refusal::Refusal;
+use refusal::Refusal::{NoAlert, NotInLog, NotKept};
 use rule::OnNews;
 use slots::Slots;
 use std::process::Abort;
@@ -15,26 +18,26 @@ const PLACES: [u32; 8] = [2, 3, 2, 2, 0, 0, 0, 0];
 // A chain of three hops over eight clusters: 0 to 1, 1 to 2 and 2 to 3, each sent after a checkpoint of its sender. Before it a message
 // of cluster 4 is delivered.
 fn chain(rt: &impl Abort, federation: &mut Federation<Slots, OnNews>) {
-    assert_eq!(rt; federation.send(4, 1, 40), Ok(Sent { id: 1, number: 1 }));
+    assert_eq!(rt; federation.send(4, 1, 40), sent(1, 1));
     assert_eq!(rt; deliver(federation, 1, 1, &[12]), Ok(2));
-    assert_eq!(rt; round(federation, 0, &[2]), Ok(Noted::Committed(2, None)));
-    assert_eq!(rt; federation.send(0, 1, 41), Ok(Sent { id: 2, number: 2 }));
+    assert_eq!(rt; round(federation, 0, &[2]), Ok(Committed(2, None)));
+    assert_eq!(rt; federation.send(0, 1, 41), sent(2, 2));
     assert_eq!(rt; deliver(federation, 2, 1, &[13]), Ok(3));
-    assert_eq!(rt; round(federation, 1, &[14]), Ok(Noted::Committed(4, None)));
-    assert_eq!(rt; federation.send(1, 2, 42), Ok(Sent { id: 3, number: 4 }));
+    assert_eq!(rt; round(federation, 1, &[14]), Ok(Committed(4, None)));
+    assert_eq!(rt; federation.send(1, 2, 42), sent(3, 4));
     assert_eq!(rt; deliver(federation, 3, 2, &[22]), Ok(2));
-    assert_eq!(rt; round(federation, 2, &[23]), Ok(Noted::Committed(3, None)));
-    assert_eq!(rt; federation.send(2, 3, 43), Ok(Sent { id: 4, number: 3 }));
+    assert_eq!(rt; round(federation, 2, &[23]), Ok(Committed(3, None)));
+    assert_eq!(rt; federation.send(2, 3, 43), sent(4, 3));
     assert_eq!(rt; deliver(federation, 4, 3, &[32]), Ok(2));
 }
 
 // Beside the chain, all from clusters that stay: a message to cluster 3, delivered after the chain; one to cluster 2 and one to cluster
 // 7, both on their way.
 fn beside(rt: &impl Abort, federation: &mut Federation<Slots, OnNews>) {
-    assert_eq!(rt; federation.send(5, 3, 44), Ok(Sent { id: 5, number: 1 }));
+    assert_eq!(rt; federation.send(5, 3, 44), sent(5, 1));
     assert_eq!(rt; deliver(federation, 5, 3, &[33]), Ok(3));
-    assert_eq!(rt; federation.send(6, 2, 45), Ok(Sent { id: 6, number: 1 }));
-    assert_eq!(rt; federation.send(6, 7, 46), Ok(Sent { id: 7, number: 1 }));
+    assert_eq!(rt; federation.send(6, 2, 45), sent(6, 1));
+    assert_eq!(rt; federation.send(6, 7, 46), sent(7, 1));
 }
 
 // A chain of three hops: the fault of its first cluster calls back the other three, each to its checkpoint before the hop, and nobody
@@ -46,8 +49,7 @@ fn a_chain_of_three_hops(rt: HostRuntime) -> Result<(), Fail> {
     beside(&rt, &mut federation);
     assert_eq!(rt; federation.trial(0)?.as_slice(), PLACES.as_slice());
     let resumed = restart(&mut federation, 0)?;
-    assert_eq!(rt; resumed.places.as_slice(), PLACES.as_slice());
-    assert_eq!(rt; resumed.ids.as_slice(), [5, 6].as_slice());
+    assert!(rt; told(&resumed, &PLACES, &[5, 6]));
     Ok(())
 }
 
@@ -57,19 +59,18 @@ fn words_after_a_chain(rt: HostRuntime) -> Result<(), Fail> {
     let mut federation = open(rt.alloc(), 8, 1)?;
     chain(&rt, &mut federation);
     beside(&rt, &mut federation);
-    assert_eq!(rt; federation.read(1, 4)?.as_slice(), [14].as_slice());
+    assert!(rt; reads(&federation, 1, 4, &[14]));
     restart(&mut federation, 0)?;
     for (cluster, place, word) in [(0, 2, 2), (1, 2, 12), (1, 3, 13), (2, 2, 22), (3, 2, 32)] {
-        assert_eq!(rt;
-            federation.read(cluster, place)?.as_slice(),
-            [word].as_slice(),
+        assert!(rt;
+            reads(&federation, cluster, place, &[word]),
             "cluster {cluster}"
         );
     }
     for (cluster, number) in [(0, 3), (1, 4), (2, 3), (3, 3)] {
         assert_eq!(rt;
             federation.read(cluster, number).err(),
-            Some(Refusal::NotKept),
+            Some(NotKept),
             "cluster {cluster}"
         );
     }
@@ -84,21 +85,14 @@ fn messages_after_a_chain(rt: HostRuntime) -> Result<(), Fail> {
     beside(&rt, &mut federation);
     restart(&mut federation, 0)?;
     for id in [2, 3, 4] {
-        assert_eq!(rt;
-            federation.arrive(id, 0),
-            Err(Refusal::NotInLog),
-            "message {id}"
-        );
+        assert_eq!(rt; federation.arrive(id, 0), Err(NotInLog), "message {id}");
     }
     assert_eq!(rt; federation.arrive(1, 0), Err(Refusal::Delivered));
     assert_eq!(rt; deliver(&mut federation, 5, 3, &[34]), Ok(3));
     assert_eq!(rt; deliver(&mut federation, 6, 2, &[24]), Ok(3));
     assert_eq!(rt; deliver(&mut federation, 7, 7, &[72]), Ok(2));
-    assert_eq!(rt;
-        federation.send(0, 1, 47),
-        Ok(Sent { id: 8, number: 2 }),
-        "ids go on"
-    );
+    // ids go on
+    assert_eq!(rt; federation.send(0, 1, 47), sent(8, 2));
     Ok(())
 }
 
@@ -108,36 +102,15 @@ fn carry_all(
     federation: &mut Federation<Slots, OnNews>,
     ticket: &Ticket<Travelling>,
 ) {
-    assert_eq!(rt;
-        federation.alert(ticket, 0, 1),
-        Ok(Carried {
-            moved: true,
-            place: 3
-        })
-    );
-    assert_eq!(rt;
-        federation.alert(ticket, 1, 2),
-        Ok(Carried {
-            moved: true,
-            place: 2
-        })
-    );
-    assert_eq!(rt;
-        federation.alert(ticket, 2, 3),
-        Ok(Carried {
-            moved: true,
-            place: 2
-        })
-    );
+    assert_eq!(rt; federation.alert(ticket, 0, 1), moved(3));
+    assert_eq!(rt; federation.alert(ticket, 1, 2), moved(2));
+    assert_eq!(rt; federation.alert(ticket, 2, 3), moved(2));
     for from in 0..4 {
         for (to, place) in (0u8..8).zip(PLACES) {
             if to != from && !(to <= 3 && to == from + 1) {
                 assert_eq!(rt;
                     federation.alert(ticket, from, to),
-                    Ok(Carried {
-                        moved: false,
-                        place
-                    }),
+                    stays(place),
                     "from {from} to {to}"
                 );
             }
@@ -159,7 +132,7 @@ fn a_chain_carried_alert_by_alert(rt: HostRuntime) -> Result<(), Fail> {
             if from != to {
                 assert_eq!(rt;
                     federation.alert(&ticket, from, to),
-                    Err(Refusal::NoAlert),
+                    Err(NoAlert),
                     "from {from} to {to}"
                 );
             }
@@ -167,8 +140,7 @@ fn a_chain_carried_alert_by_alert(rt: HostRuntime) -> Result<(), Fail> {
     }
     let settled = finish(&mut federation, ticket)?;
     let resumed = resume(&mut federation, settled)?;
-    assert_eq!(rt; resumed.places.as_slice(), PLACES.as_slice());
-    assert_eq!(rt; resumed.ids.as_slice(), [5, 6].as_slice());
+    assert!(rt; told(&resumed, &PLACES, &[5, 6]));
     Ok(())
 }
 
@@ -179,21 +151,11 @@ fn a_fault_in_the_middle_of_a_chain(rt: HostRuntime) -> Result<(), Fail> {
     chain(&rt, &mut federation);
     beside(&rt, &mut federation);
     let resumed = restart(&mut federation, 2)?;
-    assert_eq!(rt;
-        resumed.places.as_slice(),
-        [0, 0, 3, 2, 0, 0, 0, 0].as_slice()
-    );
-    assert_eq!(rt; resumed.ids.as_slice(), [5, 6].as_slice());
-    assert_eq!(rt;
-        federation.arrive(3, 0),
-        Err(Refusal::Delivered),
-        "from cluster 1 to cluster 2"
-    );
-    assert_eq!(rt;
-        federation.arrive(4, 0),
-        Err(Refusal::NotInLog),
-        "from cluster 2 to cluster 3"
-    );
+    assert!(rt; told(&resumed, &[0, 0, 3, 2, 0, 0, 0, 0], &[5, 6]));
+    // from cluster 1 to cluster 2
+    assert_eq!(rt; federation.arrive(3, 0), Err(Refusal::Delivered));
+    // from cluster 2 to cluster 3
+    assert_eq!(rt; federation.arrive(4, 0), Err(NotInLog));
     Ok(())
 }
 
@@ -202,58 +164,23 @@ fn a_fault_in_the_middle_of_a_chain(rt: HostRuntime) -> Result<(), Fail> {
 #[test]
 fn a_cluster_is_called_back_twice(rt: HostRuntime) -> Result<(), Fail> {
     let mut federation = open(rt.alloc(), 3, 1)?;
-    assert_eq!(rt; federation.send(0, 1, 7), Ok(Sent { id: 1, number: 1 }));
+    assert_eq!(rt; federation.send(0, 1, 7), sent(1, 1));
     assert_eq!(rt; deliver(&mut federation, 1, 1, &[12]), Ok(2));
-    assert_eq!(rt; federation.send(1, 2, 8), Ok(Sent { id: 2, number: 2 }));
+    assert_eq!(rt; federation.send(1, 2, 8), sent(2, 2));
     assert_eq!(rt; deliver(&mut federation, 2, 2, &[22]), Ok(2));
-    assert_eq!(rt;
-        round(&mut federation, 2, &[23]),
-        Ok(Noted::Committed(3, None))
-    );
-    assert_eq!(rt; federation.send(0, 2, 9), Ok(Sent { id: 3, number: 1 }));
+    assert_eq!(rt; round(&mut federation, 2, &[23]), Ok(Committed(3, None)));
+    assert_eq!(rt; federation.send(0, 2, 9), sent(3, 1));
     assert_eq!(rt; deliver(&mut federation, 3, 2, &[24]), Ok(4));
     let ticket = fault(&mut federation, 0)?;
-    assert_eq!(rt;
-        federation.alert(&ticket, 0, 2),
-        Ok(Carried {
-            moved: true,
-            place: 4
-        })
-    );
-    assert_eq!(rt;
-        federation.alert(&ticket, 2, 1),
-        Ok(Carried {
-            moved: false,
-            place: 0
-        })
-    );
-    assert_eq!(rt; federation.alert(&ticket, 2, 1), Err(Refusal::NoAlert));
-    assert_eq!(rt;
-        federation.alert(&ticket, 0, 1),
-        Ok(Carried {
-            moved: true,
-            place: 2
-        })
-    );
-    assert_eq!(rt;
-        federation.alert(&ticket, 1, 2),
-        Ok(Carried {
-            moved: true,
-            place: 2
-        })
-    );
-    assert_eq!(rt;
-        federation.alert(&ticket, 2, 1),
-        Ok(Carried {
-            moved: false,
-            place: 2
-        }),
-        "it waits again"
-    );
+    assert_eq!(rt; federation.alert(&ticket, 0, 2), moved(4));
+    assert_eq!(rt; federation.alert(&ticket, 2, 1), stays(0));
+    assert_eq!(rt; federation.alert(&ticket, 2, 1), Err(NoAlert));
+    assert_eq!(rt; federation.alert(&ticket, 0, 1), moved(2));
+    assert_eq!(rt; federation.alert(&ticket, 1, 2), moved(2));
+    // it waits again
+    assert_eq!(rt; federation.alert(&ticket, 2, 1), stays(2));
     let settled = finish(&mut federation, ticket)?;
-    assert_eq!(rt;
-        resume(&mut federation, settled)?.places.as_slice(),
-        [1, 2, 2].as_slice()
-    );
+    let resumed = resume(&mut federation, settled)?;
+    assert!(rt; told(&resumed, &[1, 2, 2], &[]));
     Ok(())
 }

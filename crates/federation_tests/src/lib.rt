@@ -4,12 +4,22 @@
 #[cfg(test)]
 mod chains;
 #[cfg(test)]
+mod collecting;
+#[cfg(test)]
+mod limits;
+#[cfg(test)]
 mod messages;
 #[cfg(test)]
 mod opening;
+#[cfg(test)]
+mod refused;
 #[cfg(test)]
 mod restarts;
 #[cfg(test)]
 mod rig;
 #[cfg(test)]
 mod rounds;
+#[cfg(test)]
+mod stores;
+#[cfg(test)]
+mod tickets;

@@ -1,7 +1,10 @@
 // Messages: send and arrive, and the two forcing rules.
-use crate::rig::{deliver, fault, open, open_over, restart, round};
-use law::{Arrived, Noted, Sent};
+use crate::rig::{deliver, fault, open, open_over, reads, restart, round, sent, told};
+use law::Arrived;
+use law::Arrived::Forced;
+use law::Noted::Committed;
 use refusal::Refusal;
+use refusal::Refusal::{NoCluster, NoRank, NotInLog, NotKept, RestartOpen, RoundOpen, SameCluster};
 use rule::{Always, ForcingRule, OnNews};
 use slots::Slots;
 use std::process::Abort;
@@ -12,17 +15,11 @@ use store::Store;
 #[test]
 fn ids_and_numbers(rt: HostRuntime) -> Result<(), Fail> {
     let mut federation = open(rt.alloc(), 3, 1)?;
-    assert_eq!(rt; federation.send(0, 1, 7), Ok(Sent { id: 1, number: 1 }));
-    assert_eq!(rt;
-        round(&mut federation, 2, &[5]),
-        Ok(Noted::Committed(2, None))
-    );
-    assert_eq!(rt;
-        round(&mut federation, 2, &[6]),
-        Ok(Noted::Committed(3, None))
-    );
-    assert_eq!(rt; federation.send(2, 1, 8), Ok(Sent { id: 2, number: 3 }));
-    assert_eq!(rt; federation.send(1, 0, 9), Ok(Sent { id: 3, number: 1 }));
+    assert_eq!(rt; federation.send(0, 1, 7), sent(1, 1));
+    assert_eq!(rt; round(&mut federation, 2, &[5]), Ok(Committed(2, None)));
+    assert_eq!(rt; round(&mut federation, 2, &[6]), Ok(Committed(3, None)));
+    assert_eq!(rt; federation.send(2, 1, 8), sent(2, 3));
+    assert_eq!(rt; federation.send(1, 0, 9), sent(3, 1));
     Ok(())
 }
 
@@ -30,42 +27,22 @@ fn ids_and_numbers(rt: HostRuntime) -> Result<(), Fail> {
 #[test]
 fn refused_sends(rt: HostRuntime) -> Result<(), Fail> {
     let mut federation = open(rt.alloc(), 2, 1)?;
-    assert_eq!(rt;
-        federation.send(2, 2, 7),
-        Err(Refusal::NoCluster),
-        "before both the same"
-    );
-    assert_eq!(rt;
-        federation.send(2, 0, 7),
-        Err(Refusal::NoCluster),
-        "the sender"
-    );
-    assert_eq!(rt;
-        federation.send(0, 2, 7),
-        Err(Refusal::NoCluster),
-        "the receiver"
-    );
     assert_eq!(rt; federation.request(0, 0), Ok(0));
-    assert_eq!(rt;
-        federation.send(0, 2, 7),
-        Err(Refusal::NoCluster),
-        "before the round"
-    );
-    assert_eq!(rt;
-        federation.send(0, 0, 7),
-        Err(Refusal::SameCluster),
-        "before the round"
-    );
-    assert_eq!(rt; federation.send(0, 1, 7), Err(Refusal::RoundOpen));
-    assert_eq!(rt;
-        federation.send(1, 0, 7),
-        Ok(Sent { id: 1, number: 1 }),
-        "the receiver's round is no hindrance"
-    );
+    for (from, to, why) in [
+        (2, 2, NoCluster),
+        (2, 0, NoCluster),
+        (0, 2, NoCluster),
+        (0, 0, SameCluster),
+        (0, 1, RoundOpen),
+    ] {
+        assert_eq!(rt; federation.send(from, to, 7), Err(why));
+    }
+    // the receiver's round is no hindrance
+    assert_eq!(rt; federation.send(1, 0, 7), sent(1, 1));
     let ticket = fault(&mut federation, 0)?;
-    assert_eq!(rt; federation.send(0, 2, 7), Err(Refusal::NoCluster));
-    assert_eq!(rt; federation.send(1, 1, 7), Err(Refusal::SameCluster));
-    assert_eq!(rt; federation.send(1, 0, 7), Err(Refusal::RestartOpen));
+    for (from, to, why) in [(0, 2, NoCluster), (1, 1, SameCluster), (1, 0, RestartOpen)] {
+        assert_eq!(rt; federation.send(from, to, 7), Err(why));
+    }
     ticket.give_up();
     Ok(())
 }
@@ -74,50 +51,24 @@ fn refused_sends(rt: HostRuntime) -> Result<(), Fail> {
 #[test]
 fn refused_arrivals(rt: HostRuntime) -> Result<(), Fail> {
     let mut federation = open(rt.alloc(), 2, 2)?;
-    assert_eq!(rt;
-        federation.arrive(1, 2),
-        Err(Refusal::NoRank),
-        "before the log"
-    );
-    assert_eq!(rt; federation.arrive(1, 0), Err(Refusal::NotInLog));
-    assert_eq!(rt; federation.arrive(0, 0), Err(Refusal::NotInLog));
-    assert_eq!(rt; federation.send(0, 1, 7), Ok(Sent { id: 1, number: 1 }));
-    assert_eq!(rt; federation.send(0, 1, 8), Ok(Sent { id: 2, number: 1 }));
+    assert_eq!(rt; federation.arrive(1, 0), Err(NotInLog));
+    assert_eq!(rt; federation.send(0, 1, 7), sent(1, 1));
+    assert_eq!(rt; federation.send(0, 1, 8), sent(2, 1));
     assert_eq!(rt; deliver(&mut federation, 1, 1, &[5, 6]), Ok(2));
     assert_eq!(rt; federation.request(1, 0), Ok(0));
-    assert_eq!(rt;
-        federation.arrive(2, 2),
-        Err(Refusal::NoRank),
-        "before the round"
-    );
-    assert_eq!(rt;
-        federation.arrive(3, 0),
-        Err(Refusal::NotInLog),
-        "before the round"
-    );
-    assert_eq!(rt;
-        federation.arrive(1, 0),
-        Err(Refusal::Delivered),
-        "before the round"
-    );
-    assert_eq!(rt; federation.arrive(2, 0), Err(Refusal::RoundOpen));
+    for (id, rank, why) in [
+        (3, 2, NoRank),
+        (3, 0, NotInLog),
+        (0, 0, NotInLog),
+        (1, 0, Refusal::Delivered),
+        (2, 0, RoundOpen),
+    ] {
+        assert_eq!(rt; federation.arrive(id, rank), Err(why));
+    }
     let ticket = fault(&mut federation, 0)?;
-    assert_eq!(rt;
-        federation.arrive(3, 2),
-        Err(Refusal::NoRank),
-        "before the restart"
-    );
-    assert_eq!(rt;
-        federation.arrive(3, 0),
-        Err(Refusal::RestartOpen),
-        "before the log"
-    );
-    assert_eq!(rt;
-        federation.arrive(1, 0),
-        Err(Refusal::RestartOpen),
-        "before delivered"
-    );
-    assert_eq!(rt; federation.arrive(2, 0), Err(Refusal::RestartOpen));
+    for (id, rank, why) in [(3, 2, NoRank), (3, 0, RestartOpen), (1, 0, RestartOpen)] {
+        assert_eq!(rt; federation.arrive(id, rank), Err(why));
+    }
     ticket.give_up();
     Ok(())
 }
@@ -126,14 +77,11 @@ fn refused_arrivals(rt: HostRuntime) -> Result<(), Fail> {
 #[test]
 fn a_copy_of_a_waiting_message_is_refused(rt: HostRuntime) -> Result<(), Fail> {
     let mut federation = open(rt.alloc(), 2, 1)?;
-    assert_eq!(rt; federation.send(0, 1, 7), Ok(Sent { id: 1, number: 1 }));
-    assert_eq!(rt; federation.arrive(1, 0), Ok(Arrived::Forced(2)));
-    assert_eq!(rt; federation.arrive(1, 0), Err(Refusal::RoundOpen));
-    assert_eq!(rt;
-        federation.answer(1, 0, 9),
-        Ok(Noted::Committed(2, Some(1))),
-        "it is delivered once"
-    );
+    assert_eq!(rt; federation.send(0, 1, 7), sent(1, 1));
+    assert_eq!(rt; federation.arrive(1, 0), Ok(Forced(2)));
+    assert_eq!(rt; federation.arrive(1, 0), Err(RoundOpen));
+    // it is delivered once
+    assert_eq!(rt; federation.answer(1, 0, 9), Ok(Committed(2, Some(1))));
     assert_eq!(rt; federation.arrive(1, 0), Err(Refusal::Delivered));
     Ok(())
 }
@@ -143,20 +91,14 @@ fn a_copy_of_a_waiting_message_is_refused(rt: HostRuntime) -> Result<(), Fail> {
 #[test]
 fn a_late_copy_is_refused(rt: HostRuntime) -> Result<(), Fail> {
     let mut federation = open(rt.alloc(), 2, 1)?;
-    assert_eq!(rt; federation.send(0, 1, 7), Ok(Sent { id: 1, number: 1 }));
+    assert_eq!(rt; federation.send(0, 1, 7), sent(1, 1));
     assert_eq!(rt; deliver(&mut federation, 1, 1, &[5]), Ok(2));
     assert_eq!(rt; federation.arrive(1, 0), Err(Refusal::Delivered));
-    assert_eq!(rt;
-        round(&mut federation, 0, &[6]),
-        Ok(Noted::Committed(2, None))
-    );
-    assert_eq!(rt;
-        round(&mut federation, 1, &[7]),
-        Ok(Noted::Committed(3, None))
-    );
+    assert_eq!(rt; round(&mut federation, 0, &[6]), Ok(Committed(2, None)));
+    assert_eq!(rt; round(&mut federation, 1, &[7]), Ok(Committed(3, None)));
     assert_eq!(rt; federation.arrive(1, 0), Err(Refusal::Delivered));
     assert_eq!(rt; federation.collect()?.messages, 1);
-    assert_eq!(rt; federation.arrive(1, 0), Err(Refusal::NotInLog));
+    assert_eq!(rt; federation.arrive(1, 0), Err(NotInLog));
     Ok(())
 }
 
@@ -164,12 +106,11 @@ fn a_late_copy_is_refused(rt: HostRuntime) -> Result<(), Fail> {
 #[test]
 fn a_copy_of_an_undone_message_is_refused(rt: HostRuntime) -> Result<(), Fail> {
     let mut federation = open(rt.alloc(), 2, 1)?;
-    assert_eq!(rt; federation.send(0, 1, 7), Ok(Sent { id: 1, number: 1 }));
+    assert_eq!(rt; federation.send(0, 1, 7), sent(1, 1));
     let resumed = restart(&mut federation, 0)?;
-    assert_eq!(rt; resumed.places.as_slice(), [1, 0].as_slice());
-    assert_eq!(rt; resumed.ids.len(), 0);
-    assert_eq!(rt; federation.arrive(1, 0), Err(Refusal::NotInLog));
-    assert_eq!(rt; federation.send(0, 1, 7), Ok(Sent { id: 2, number: 1 }));
+    assert!(rt; told(&resumed, &[1, 0], &[]));
+    assert_eq!(rt; federation.arrive(1, 0), Err(NotInLog));
+    assert_eq!(rt; federation.send(0, 1, 7), sent(2, 1));
     Ok(())
 }
 
@@ -178,13 +119,10 @@ fn overtaken<S: Store, R: ForcingRule>(
     rt: &impl Abort,
     federation: &mut federation::Federation<S, R>,
 ) {
-    assert_eq!(rt; federation.send(0, 1, 7), Ok(Sent { id: 1, number: 1 }));
-    assert_eq!(rt; federation.send(0, 1, 8), Ok(Sent { id: 2, number: 1 }));
-    assert_eq!(rt; federation.arrive(2, 0), Ok(Arrived::Forced(2)));
-    assert_eq!(rt;
-        federation.answer(1, 0, 9),
-        Ok(Noted::Committed(2, Some(2)))
-    );
+    assert_eq!(rt; federation.send(0, 1, 7), sent(1, 1));
+    assert_eq!(rt; federation.send(0, 1, 8), sent(2, 1));
+    assert_eq!(rt; federation.arrive(2, 0), Ok(Forced(2)));
+    assert_eq!(rt; federation.answer(1, 0, 9), Ok(Committed(2, Some(2))));
 }
 
 // The late older message is no news, and is delivered at once.
@@ -193,7 +131,7 @@ fn on_news_lets_an_older_message_pass(rt: HostRuntime) -> Result<(), Fail> {
     let mut federation = open_over(rt.alloc(), 2, 1, OnNews, Slots::new(rt.alloc())?)?;
     overtaken(&rt, &mut federation);
     assert_eq!(rt; federation.arrive(1, 0), Ok(Arrived::Delivered(2)));
-    assert_eq!(rt; federation.read(1, 3).err(), Some(Refusal::NotKept));
+    assert_eq!(rt; federation.read(1, 3).err(), Some(NotKept));
     Ok(())
 }
 
@@ -202,11 +140,8 @@ fn on_news_lets_an_older_message_pass(rt: HostRuntime) -> Result<(), Fail> {
 fn always_forces_before_an_older_message(rt: HostRuntime) -> Result<(), Fail> {
     let mut federation = open_over(rt.alloc(), 2, 1, Always, Slots::new(rt.alloc())?)?;
     overtaken(&rt, &mut federation);
-    assert_eq!(rt; federation.arrive(1, 0), Ok(Arrived::Forced(3)));
-    assert_eq!(rt;
-        federation.answer(1, 0, 10),
-        Ok(Noted::Committed(3, Some(1)))
-    );
-    assert_eq!(rt; federation.read(1, 3)?.as_slice(), [10].as_slice());
+    assert_eq!(rt; federation.arrive(1, 0), Ok(Forced(3)));
+    assert_eq!(rt; federation.answer(1, 0, 10), Ok(Committed(3, Some(1))));
+    assert!(rt; reads(&federation, 1, 3, &[10]));
     Ok(())
 }

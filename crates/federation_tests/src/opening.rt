@@ -1,7 +1,7 @@
 // Which federations open, and what they begin with.
-use crate::rig::{open, open_over};
+use crate::rig::{open, open_over, reads};
 use federation::{Closed, Federation, NotOpened};
-use refusal::Refusal;
+use refusal::Refusal::{BadOpen, NoCluster, NotKept};
 use rule::OnNews;
 use slots::Slots;
 use std::test::Fail;
@@ -12,11 +12,11 @@ use store::{RowKey, Store};
 fn a_new_federation_keeps_zero_words(rt: HostRuntime) -> Result<(), Fail> {
     let federation = open(rt.alloc(), 3, 2)?;
     for cluster in 0..3 {
-        assert_eq!(rt; federation.read(cluster, 1)?.as_slice(), [0, 0].as_slice());
-        assert_eq!(rt; federation.read(cluster, 0).err(), Some(Refusal::NotKept));
-        assert_eq!(rt; federation.read(cluster, 2).err(), Some(Refusal::NotKept));
+        assert!(rt; reads(&federation, cluster, 1, &[0, 0]));
+        assert_eq!(rt; federation.read(cluster, 0).err(), Some(NotKept));
+        assert_eq!(rt; federation.read(cluster, 2).err(), Some(NotKept));
     }
-    assert_eq!(rt; federation.read(3, 1).err(), Some(Refusal::NoCluster));
+    assert_eq!(rt; federation.read(3, 1).err(), Some(NoCluster));
     Ok(())
 }
 
@@ -34,7 +34,7 @@ fn sizes_are_checked(rt: HostRuntime) -> Result<(), Fail> {
         (255, 255, false),
     ] {
         let opened = open_over(rt.alloc(), clusters, nodes, OnNews, Slots::new(rt.alloc())?);
-        let expected = (!opens).then_some(Closed::Refused(Refusal::BadOpen));
+        let expected = (!opens).then_some(Closed::Refused(BadOpen));
         assert_eq!(rt;
             opened.err(),
             expected,
@@ -60,7 +60,7 @@ fn a_store_has_to_be_empty(rt: HostRuntime) -> Result<(), Fail> {
         mut store,
         rule,
     } = back;
-    assert_eq!(rt; why, Closed::Refused(Refusal::BadOpen));
+    assert_eq!(rt; why, Closed::Refused(BadOpen));
     assert_eq!(rt; rule, OnNews);
     assert_eq!(rt; store.count(), 1);
     assert_eq!(rt; store.discard(key), Ok(()));

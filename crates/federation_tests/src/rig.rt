@@ -4,11 +4,12 @@ use federation::{
     Closed, Collected, Faulted, Federation, NotOpened, Resumed, Returned, Settled, Ticket,
     Travelling,
 };
-use law::{Arrived, Noted};
+use law::{Arrived, Carried, Noted, Sent};
 use refusal::Refusal;
 use rule::{ForcingRule, OnNews};
 use slots::Slots;
 use std::alloc::Global;
+use std::process::Abort;
 use std::test::Fail;
 use store::Store;
 
@@ -74,28 +75,39 @@ pub fn deliver<S: Store, R: ForcingRule>(
     }
 }
 
-// A finish that has to be refused: why, and the ticket.
+// A finish that has to be refused for this reason; the ticket comes back.
 pub fn refused_finish<S: Store, R: ForcingRule>(
+    rt: &impl Abort,
     federation: &mut Federation<S, R>,
     ticket: Ticket<Travelling>,
-) -> Result<Returned<Travelling>, Fail> {
+    expected: Refusal,
+) -> Ticket<Travelling> {
     match federation.finish(ticket) {
         Ok(settled) => {
             settled.give_up();
-            Err(Fail::new("finished"))
+            panic!(rt; "finished")
         }
-        Err(back) => Ok(back),
+        Err(Returned { why, ticket }) => {
+            assert_eq!(rt; why, expected);
+            ticket
+        }
     }
 }
 
-// A resume that has to be refused: why, and the ticket.
+// A resume that has to be refused for this reason; the ticket comes back.
 pub fn refused_resume<S: Store, R: ForcingRule>(
+    rt: &impl Abort,
     federation: &mut Federation<S, R>,
     ticket: Ticket<Settled>,
-) -> Result<Returned<Settled>, Fail> {
+    expected: Refusal,
+) -> Ticket<Settled> {
     match federation.resume(ticket) {
-        Ok(_) => Err(Fail::new("resumed")),
-        Err(back) => Ok(back),
+        Ok(_) => panic!(rt; "resumed"),
+        Err(back) => {
+            let Returned { why, ticket } = back;
+            assert_eq!(rt; why, expected);
+            ticket
+        }
     }
 }
 
@@ -154,4 +166,47 @@ pub fn restart<S: Store, R: ForcingRule>(
     let ticket = fault(federation, cluster)?;
     let settled = finish(federation, ticket)?;
     resume(federation, settled)
+}
+
+// What an accepted send tells.
+pub fn sent(id: u32, number: u32) -> Result<Sent, Refusal> {
+    Ok(Sent { id, number })
+}
+
+// What an alert tells that does not call its receiver back.
+pub fn stays(place: u32) -> Result<Carried, Refusal> {
+    Ok(Carried {
+        moved: false,
+        place,
+    })
+}
+
+// What an alert tells that calls its receiver back to this place.
+pub fn moved(place: u32) -> Result<Carried, Refusal> {
+    Ok(Carried { moved: true, place })
+}
+
+// Whether a checkpoint is kept with these words.
+pub fn reads<S: Store, R: ForcingRule>(
+    federation: &Federation<S, R>,
+    cluster: u8,
+    number: u32,
+    words: &[u64],
+) -> bool {
+    match federation.read(cluster, number) {
+        Ok(kept) => kept.as_slice() == words,
+        Err(_) => false,
+    }
+}
+
+// Whether a resume told these places, and these messages to send again.
+pub fn told(resumed: &Resumed, places: &[u32], ids: &[u32]) -> bool {
+    resumed.places.as_slice() == places && resumed.ids.as_slice() == ids
+}
+
+// Whether a collect told these bounds, and so many checkpoints and messages gone.
+pub fn dropped(collected: &Collected, bounds: &[u32], checkpoints: u8, messages: u8) -> bool {
+    collected.bounds.as_slice() == bounds
+        && collected.checkpoints == checkpoints
+        && collected.messages == messages
 }
