@@ -104,7 +104,7 @@ fn a_full_log(rt: HostRuntime) -> Result<(), Fail> {
     Ok(())
 }
 
-// All 128 undelivered messages of a full log go again when their receiver fails; those that were sent to another cluster do not.
+// Of a full log the 64 undelivered messages to a cluster that fails go again. Those to another do not, and stay in the log.
 #[test]
 fn a_full_log_goes_again(rt: HostRuntime) -> Result<(), Fail> {
     let mut federation = open(rt.alloc(), 3, 1)?;
@@ -118,7 +118,6 @@ fn a_full_log_goes_again(rt: HostRuntime) -> Result<(), Fail> {
     for (id, even) in resumed.ids.iter().zip((2u32..=128).step_by(2)) {
         assert_eq!(rt; *id, even);
     }
-    // they stay in the log
     assert_eq!(rt; federation.send(1, 0, 9).err(), Some(LogFull));
     let resumed = restart(&mut federation, 0)?;
     assert_eq!(rt; resumed.ids.len(), 0);

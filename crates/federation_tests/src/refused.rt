@@ -1,4 +1,4 @@
-// Calls that are refused in every state, made between the calls of a run: the run's answers are as if they had not been made.
+// Refused calls change nothing: they are made between the calls of a run, and its answers are as if they had not been made.
 use crate::rig::{
     deliver, dropped, fault_refusal, finish, open, reads, refused_finish, refused_resume, resume,
     sent, stays, told,
@@ -39,12 +39,14 @@ fn no_ticket(rt: &impl Abort, federation: &mut Federation<Slots, OnNews>, why: R
     refused_resume(rt, federation, Ticket::of_no_restart(), why).give_up();
 }
 
+// What is refused in every state without a restart.
 fn while_no_restart_is_open(rt: &impl Abort, federation: &mut Federation<Slots, OnNews>) {
     none_such(rt, federation);
     no_ticket(rt, federation, NoRestart);
     assert_eq!(rt; federation.arrive(9, 0), Err(NotInLog));
 }
 
+// What is refused in every restart, settled or not.
 fn while_a_restart_is_open(rt: &impl Abort, federation: &mut Federation<Slots, OnNews>) {
     none_such(rt, federation);
     no_ticket(rt, federation, WrongTicket);

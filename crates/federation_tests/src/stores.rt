@@ -59,6 +59,7 @@ fn words<S: Store>(rt: &impl Abort, federation: &Federation<S, OnNews>) {
     }
 }
 
+// Over slots and over a journal every call answers the same.
 #[test]
 fn slots_and_a_journal_answer_the_same(rt: HostRuntime) -> Result<(), Fail> {
     let mut over_slots = open_over(rt.alloc(), 3, 2, OnNews, Slots::new(rt.alloc())?)?;
@@ -106,6 +107,7 @@ fn lose_and_rebuild<S: SidedStore>(
     Ok(())
 }
 
+// Each side of a pair of slots and a journal is lost and rebuilt in turn.
 #[test]
 fn a_rebuilt_side_has_the_same_words(rt: HostRuntime) -> Result<(), Fail> {
     for (lost, other) in [(1, 2), (2, 1)] {
@@ -193,16 +195,18 @@ fn full_store<S: Store>(
     assert_eq!(rt; federation.request(3, 1), Ok(0));
     assert_eq!(rt; federation.collect()?.checkpoints, 56);
     assert_eq!(rt; federation.answer(3, 0, 4), Ok(Committed(9, None)));
-    assert!(rt; reads(&federation, 3, 9, &[4, 6]));
+    assert!(rt; reads(federation, 3, 9, &[4, 6]));
     Ok(())
 }
 
+// Slots are full without a side.
 #[test]
 fn an_answer_refused_by_full_slots_comes_again(rt: HostRuntime) -> Result<(), Fail> {
     let mut federation = open_over(rt.alloc(), 8, 2, OnNews, Slots::new(rt.alloc())?)?;
     full_store(&rt, &mut federation, StoreRefusal::Full(0))
 }
 
+// So is a journal.
 #[test]
 fn an_answer_refused_by_a_full_journal_comes_again(rt: HostRuntime) -> Result<(), Fail> {
     let mut bytes = vec![in rt.alloc(); 0u8; SIZE]?;
