@@ -1,6 +1,6 @@
 // Trial, collect and read.
 use crate::rig::{
-    deliver, dropped, fault, finish, open, reads, restart, resume, round, sent, told,
+    deliver, dropped, fault, finish, open, reads, restart, resume, round, same, sent, told,
 };
 use federation::Faulted;
 use law::Noted::{Committed, Missing};
@@ -12,11 +12,11 @@ use std::test::Fail;
 #[test]
 fn refused_trials(rt: HostRuntime) -> Result<(), Fail> {
     let mut federation = open(rt.alloc(), 2, 1)?;
-    assert_eq!(rt; federation.trial(2).err(), Some(NoCluster));
+    same(&rt, &federation.trial(2).err(), &Some(NoCluster));
     let ticket = fault(&mut federation, 0)?;
     // before the restart
-    assert_eq!(rt; federation.trial(2).err(), Some(NoCluster));
-    assert_eq!(rt; federation.trial(1).err(), Some(RestartOpen));
+    same(&rt, &federation.trial(2).err(), &Some(NoCluster));
+    same(&rt, &federation.trial(1).err(), &Some(RestartOpen));
     let settled = finish(&mut federation, ticket)?;
     let resumed = resume(&mut federation, settled)?;
     // the refused trial left the places
@@ -28,19 +28,19 @@ fn refused_trials(rt: HostRuntime) -> Result<(), Fail> {
 #[test]
 fn a_trial_changes_nothing(rt: HostRuntime) -> Result<(), Fail> {
     let mut federation = open(rt.alloc(), 2, 2)?;
-    assert_eq!(rt; federation.send(0, 1, 7), sent(1, 1));
-    assert_eq!(rt; deliver(&mut federation, 1, 1, &[5, 6]), Ok(2));
-    assert_eq!(rt; federation.request(1, 0), Ok(0));
-    assert_eq!(rt; federation.answer(1, 1, 8), Ok(Missing(1)));
-    assert_eq!(rt; federation.trial(0)?.as_slice(), [1, 2].as_slice());
-    assert_eq!(rt; federation.trial(1)?.as_slice(), [0, 2].as_slice());
+    same(&rt, &federation.send(0, 1, 7), &sent(1, 1));
+    same(&rt, &deliver(&mut federation, 1, 1, &[5, 6]), &Ok(2));
+    same(&rt, &federation.request(1, 0), &Ok(0));
+    same(&rt, &federation.answer(1, 1, 8), &Ok(Missing(1)));
+    same(&rt, &federation.trial(0)?.as_slice(), &[1, 2].as_slice());
+    same(&rt, &federation.trial(1)?.as_slice(), &[0, 2].as_slice());
     // the round is as it was
-    assert_eq!(rt; federation.answer(1, 0, 7), Ok(Committed(3, None)));
-    assert_eq!(rt; federation.arrive(1, 0), Err(Refusal::Delivered));
+    same(&rt, &federation.answer(1, 0, 7), &Ok(Committed(3, None)));
+    same(&rt, &federation.arrive(1, 0), &Err(Refusal::Delivered));
     let Faulted { place, ticket } = federation.fault(0)?;
-    assert_eq!(rt; place, 1);
+    same(&rt, &place, &1);
     // a trial is no restart
-    assert_eq!(rt; ticket.numbers().count, 1);
+    same(&rt, &ticket.numbers().count, &1);
     let settled = finish(&mut federation, ticket)?;
     let resumed = resume(&mut federation, settled)?;
     assert!(rt; told(&resumed, &[1, 2], &[]));
@@ -51,17 +51,21 @@ fn a_trial_changes_nothing(rt: HostRuntime) -> Result<(), Fail> {
 #[test]
 fn a_collect_keeps_what_a_fault_can_need(rt: HostRuntime) -> Result<(), Fail> {
     let mut federation = open(rt.alloc(), 2, 1)?;
-    assert_eq!(rt; federation.send(0, 1, 7), sent(1, 1));
-    assert_eq!(rt; deliver(&mut federation, 1, 1, &[9]), Ok(2));
-    assert_eq!(rt; round(&mut federation, 1, &[10]), Ok(Committed(3, None)));
+    same(&rt, &federation.send(0, 1, 7), &sent(1, 1));
+    same(&rt, &deliver(&mut federation, 1, 1, &[9]), &Ok(2));
+    same(
+        &rt,
+        &round(&mut federation, 1, &[10]),
+        &Ok(Committed(3, None)),
+    );
     // received at the bound
     let collected = federation.collect()?;
     assert!(rt; dropped(&collected, &[1, 2], 1, 0));
     assert!(rt; reads(&federation, 0, 1, &[0]));
-    assert_eq!(rt; federation.read(1, 1).err(), Some(NotKept));
+    same(&rt, &federation.read(1, 1).err(), &Some(NotKept));
     assert!(rt; reads(&federation, 1, 2, &[9]));
     let resumed = restart(&mut federation, 0)?;
-    assert_eq!(rt; resumed.places.as_slice(), [1, 2].as_slice());
+    same(&rt, &resumed.places.as_slice(), &[1, 2].as_slice());
     Ok(())
 }
 
@@ -69,19 +73,27 @@ fn a_collect_keeps_what_a_fault_can_need(rt: HostRuntime) -> Result<(), Fail> {
 #[test]
 fn a_collect_drops_what_no_fault_can_need(rt: HostRuntime) -> Result<(), Fail> {
     let mut federation = open(rt.alloc(), 2, 1)?;
-    assert_eq!(rt; federation.send(0, 1, 7), sent(1, 1));
-    assert_eq!(rt; federation.send(0, 1, 8), sent(2, 1));
-    assert_eq!(rt; deliver(&mut federation, 1, 1, &[9]), Ok(2));
-    assert_eq!(rt; round(&mut federation, 0, &[5]), Ok(Committed(2, None)));
-    assert_eq!(rt; round(&mut federation, 1, &[10]), Ok(Committed(3, None)));
+    same(&rt, &federation.send(0, 1, 7), &sent(1, 1));
+    same(&rt, &federation.send(0, 1, 8), &sent(2, 1));
+    same(&rt, &deliver(&mut federation, 1, 1, &[9]), &Ok(2));
+    same(
+        &rt,
+        &round(&mut federation, 0, &[5]),
+        &Ok(Committed(2, None)),
+    );
+    same(
+        &rt,
+        &round(&mut federation, 1, &[10]),
+        &Ok(Committed(3, None)),
+    );
     // the other is undelivered
     let collected = federation.collect()?;
     assert!(rt; dropped(&collected, &[2, 3], 3, 1));
     let collected = federation.collect()?;
     assert!(rt; dropped(&collected, &[2, 3], 0, 0));
-    assert_eq!(rt; federation.arrive(1, 0), Err(NotInLog));
+    same(&rt, &federation.arrive(1, 0), &Err(NotInLog));
     // no news
-    assert_eq!(rt; deliver(&mut federation, 2, 1, &[11]), Ok(3));
+    same(&rt, &deliver(&mut federation, 2, 1, &[11]), &Ok(3));
     Ok(())
 }
 
@@ -89,11 +101,15 @@ fn a_collect_drops_what_no_fault_can_need(rt: HostRuntime) -> Result<(), Fail> {
 #[test]
 fn a_collect_leaves_rounds(rt: HostRuntime) -> Result<(), Fail> {
     let mut federation = open(rt.alloc(), 2, 2)?;
-    assert_eq!(rt; round(&mut federation, 0, &[5, 6]), Ok(Committed(2, None)));
-    assert_eq!(rt; federation.request(0, 1), Ok(1));
-    assert_eq!(rt; federation.answer(0, 1, 8), Ok(Missing(1)));
-    assert_eq!(rt; federation.collect()?.checkpoints, 1);
-    assert_eq!(rt; federation.answer(0, 0, 7), Ok(Committed(3, None)));
+    same(
+        &rt,
+        &round(&mut federation, 0, &[5, 6]),
+        &Ok(Committed(2, None)),
+    );
+    same(&rt, &federation.request(0, 1), &Ok(1));
+    same(&rt, &federation.answer(0, 1, 8), &Ok(Missing(1)));
+    same(&rt, &federation.collect()?.checkpoints, &1);
+    same(&rt, &federation.answer(0, 0, 7), &Ok(Committed(3, None)));
     assert!(rt; reads(&federation, 0, 3, &[7, 8]));
     Ok(())
 }
@@ -102,16 +118,20 @@ fn a_collect_leaves_rounds(rt: HostRuntime) -> Result<(), Fail> {
 #[test]
 fn a_refused_collect(rt: HostRuntime) -> Result<(), Fail> {
     let mut federation = open(rt.alloc(), 2, 1)?;
-    assert_eq!(rt; round(&mut federation, 0, &[5]), Ok(Committed(2, None)));
+    same(
+        &rt,
+        &round(&mut federation, 0, &[5]),
+        &Ok(Committed(2, None)),
+    );
     let ticket = fault(&mut federation, 1)?;
-    assert_eq!(rt; federation.collect().err(), Some(RestartOpen));
+    same(&rt, &federation.collect().err(), &Some(RestartOpen));
     let settled = finish(&mut federation, ticket)?;
     // settled
-    assert_eq!(rt; federation.collect().err(), Some(RestartOpen));
+    same(&rt, &federation.collect().err(), &Some(RestartOpen));
     let resumed = resume(&mut federation, settled)?;
     assert!(rt; told(&resumed, &[0, 1], &[]));
     assert!(rt; reads(&federation, 0, 1, &[0]));
-    assert_eq!(rt; federation.collect()?.checkpoints, 1);
+    same(&rt, &federation.collect()?.checkpoints, &1);
     Ok(())
 }
 
@@ -119,23 +139,27 @@ fn a_refused_collect(rt: HostRuntime) -> Result<(), Fail> {
 #[test]
 fn refused_reads(rt: HostRuntime) -> Result<(), Fail> {
     let mut federation = open(rt.alloc(), 2, 1)?;
-    assert_eq!(rt; federation.send(0, 1, 7), sent(1, 1));
-    assert_eq!(rt; deliver(&mut federation, 1, 1, &[5]), Ok(2));
-    assert_eq!(rt; round(&mut federation, 1, &[6]), Ok(Committed(3, None)));
+    same(&rt, &federation.send(0, 1, 7), &sent(1, 1));
+    same(&rt, &deliver(&mut federation, 1, 1, &[5]), &Ok(2));
+    same(
+        &rt,
+        &round(&mut federation, 1, &[6]),
+        &Ok(Committed(3, None)),
+    );
     // before not kept
-    assert_eq!(rt; federation.read(2, 9).err(), Some(NoCluster));
+    same(&rt, &federation.read(2, 9).err(), &Some(NoCluster));
     // not yet taken
-    assert_eq!(rt; federation.read(1, 4).err(), Some(NotKept));
+    same(&rt, &federation.read(1, 4).err(), &Some(NotKept));
     // they count from 1
-    assert_eq!(rt; federation.read(1, 0).err(), Some(NotKept));
+    same(&rt, &federation.read(1, 0).err(), &Some(NotKept));
     let ticket = fault(&mut federation, 0)?;
     let settled = finish(&mut federation, ticket)?;
-    assert_eq!(rt; federation.read(1, 3).map(|words| words.len()), Ok(1));
-    assert_eq!(rt; federation.read(2, 1).err(), Some(NoCluster));
+    same(&rt, &federation.read(1, 3).map(|words| words.len()), &Ok(1));
+    same(&rt, &federation.read(2, 1).err(), &Some(NoCluster));
     let resumed = resume(&mut federation, settled)?;
     assert!(rt; told(&resumed, &[1, 2], &[]));
     // undone
-    assert_eq!(rt; federation.read(1, 3).err(), Some(NotKept));
+    same(&rt, &federation.read(1, 3).err(), &Some(NotKept));
     assert!(rt; reads(&federation, 1, 2, &[5]));
     Ok(())
 }

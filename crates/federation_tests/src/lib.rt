@@ -6,6 +6,8 @@ mod chains;
 #[cfg(test)]
 mod collecting;
 #[cfg(test)]
+mod examples;
+#[cfg(test)]
 mod limits;
 #[cfg(test)]
 mod messages;

@@ -1,5 +1,5 @@
 // What is full, and what is spent: kept checkpoints, the log and the numbers.
-use crate::rig::{deliver, dropped, fault, finish, open, restart, resume, round, sent, told};
+use crate::rig::{deliver, dropped, fault, finish, open, restart, resume, round, same, sent, told};
 use federation::Federation;
 use law::Arrived;
 use law::Arrived::Forced;
@@ -17,21 +17,30 @@ use std::test::Fail;
 fn sixteen_checkpoints_are_kept(rt: HostRuntime) -> Result<(), Fail> {
     let mut federation = open(rt.alloc(), 2, 1)?;
     for number in 2..=16 {
-        assert_eq!(rt;
-            round(&mut federation, 0, &[7]),
-            Ok(Committed(number, None))
+        same(
+            &rt,
+            &round(&mut federation, 0, &[7]),
+            &Ok(Committed(number, None)),
         );
     }
-    assert_eq!(rt; federation.request(0, 0), Err(KeptFull));
+    same(&rt, &federation.request(0, 0), &Err(KeptFull));
     // before full
-    assert_eq!(rt; federation.request(0, 1), Err(NoRank));
+    same(&rt, &federation.request(0, 1), &Err(NoRank));
     // none was opened
-    assert_eq!(rt; federation.answer(0, 0, 8), Err(NoRound));
+    same(&rt, &federation.answer(0, 0, 8), &Err(NoRound));
     // the other cluster
-    assert_eq!(rt; round(&mut federation, 1, &[9]), Ok(Committed(2, None)));
+    same(
+        &rt,
+        &round(&mut federation, 1, &[9]),
+        &Ok(Committed(2, None)),
+    );
     let collected = federation.collect()?;
     assert!(rt; dropped(&collected, &[16, 2], 16, 0));
-    assert_eq!(rt; round(&mut federation, 0, &[8]), Ok(Committed(17, None)));
+    same(
+        &rt,
+        &round(&mut federation, 0, &[8]),
+        &Ok(Committed(17, None)),
+    );
     Ok(())
 }
 
@@ -43,11 +52,11 @@ fn a_restart_comes_before_sixteen_kept(rt: HostRuntime) -> Result<(), Fail> {
         round(&mut federation, 0, &[7])?;
     }
     let ticket = fault(&mut federation, 0)?;
-    assert_eq!(rt; federation.request(0, 0), Err(RestartOpen));
+    same(&rt, &federation.request(0, 0), &Err(RestartOpen));
     let settled = finish(&mut federation, ticket)?;
     let resumed = resume(&mut federation, settled)?;
     assert!(rt; told(&resumed, &[16, 0], &[]));
-    assert_eq!(rt; federation.request(0, 0), Err(KeptFull));
+    same(&rt, &federation.request(0, 0), &Err(KeptFull));
     Ok(())
 }
 
@@ -55,28 +64,33 @@ fn a_restart_comes_before_sixteen_kept(rt: HostRuntime) -> Result<(), Fail> {
 #[test]
 fn news_for_a_full_receiver(rt: HostRuntime) -> Result<(), Fail> {
     let mut federation = open(rt.alloc(), 2, 1)?;
-    assert_eq!(rt; federation.send(0, 1, 7), sent(1, 1));
-    assert_eq!(rt; federation.send(0, 1, 8), sent(2, 1));
-    assert_eq!(rt; deliver(&mut federation, 1, 1, &[5]), Ok(2));
+    same(&rt, &federation.send(0, 1, 7), &sent(1, 1));
+    same(&rt, &federation.send(0, 1, 8), &sent(2, 1));
+    same(&rt, &deliver(&mut federation, 1, 1, &[5]), &Ok(2));
     for number in 3..=16 {
-        assert_eq!(rt;
-            round(&mut federation, 1, &[6]),
-            Ok(Committed(number, None))
+        same(
+            &rt,
+            &round(&mut federation, 1, &[6]),
+            &Ok(Committed(number, None)),
         );
     }
-    assert_eq!(rt; round(&mut federation, 0, &[4]), Ok(Committed(2, None)));
-    assert_eq!(rt; federation.send(0, 1, 9), sent(3, 2));
-    assert_eq!(rt; federation.arrive(3, 0), Err(KeptFull));
+    same(
+        &rt,
+        &round(&mut federation, 0, &[4]),
+        &Ok(Committed(2, None)),
+    );
+    same(&rt, &federation.send(0, 1, 9), &sent(3, 2));
+    same(&rt, &federation.arrive(3, 0), &Err(KeptFull));
     // before full
-    assert_eq!(rt; federation.arrive(1, 0), Err(Refusal::Delivered));
+    same(&rt, &federation.arrive(1, 0), &Err(Refusal::Delivered));
     // no round was opened
-    assert_eq!(rt; federation.arrive(2, 0), Ok(Arrived::Delivered(16)));
+    same(&rt, &federation.arrive(2, 0), &Ok(Arrived::Delivered(16)));
     // only what came below the bound
     let collected = federation.collect()?;
     assert!(rt; dropped(&collected, &[2, 16], 16, 1));
-    assert_eq!(rt; federation.arrive(1, 0), Err(NotInLog));
-    assert_eq!(rt; federation.arrive(2, 0), Err(Refusal::Delivered));
-    assert_eq!(rt; federation.arrive(3, 0), Ok(Forced(17)));
+    same(&rt, &federation.arrive(1, 0), &Err(NotInLog));
+    same(&rt, &federation.arrive(2, 0), &Err(Refusal::Delivered));
+    same(&rt, &federation.arrive(3, 0), &Ok(Forced(17)));
     Ok(())
 }
 
@@ -85,21 +99,21 @@ fn news_for_a_full_receiver(rt: HostRuntime) -> Result<(), Fail> {
 fn a_full_log(rt: HostRuntime) -> Result<(), Fail> {
     let mut federation = open(rt.alloc(), 2, 1)?;
     for id in 1..=128 {
-        assert_eq!(rt; federation.send(0, 1, 7), sent(id, 1));
+        same(&rt, &federation.send(0, 1, 7), &sent(id, 1));
     }
-    assert_eq!(rt; federation.send(0, 1, 7), Err(LogFull));
+    same(&rt, &federation.send(0, 1, 7), &Err(LogFull));
     // one log for all
-    assert_eq!(rt; federation.send(1, 0, 7), Err(LogFull));
+    same(&rt, &federation.send(1, 0, 7), &Err(LogFull));
     // before full
-    assert_eq!(rt; federation.send(1, 1, 7), Err(SameCluster));
-    assert_eq!(rt; federation.request(0, 0), Ok(0));
+    same(&rt, &federation.send(1, 1, 7), &Err(SameCluster));
+    same(&rt, &federation.request(0, 0), &Ok(0));
     // before full
-    assert_eq!(rt; federation.send(0, 1, 7), Err(RoundOpen));
-    assert_eq!(rt; federation.collect()?.messages, 0);
-    assert_eq!(rt; federation.send(1, 0, 7), Err(LogFull));
+    same(&rt, &federation.send(0, 1, 7), &Err(RoundOpen));
+    same(&rt, &federation.collect()?.messages, &0);
+    same(&rt, &federation.send(1, 0, 7), &Err(LogFull));
     let ticket = fault(&mut federation, 1)?;
     // before full
-    assert_eq!(rt; federation.send(0, 1, 7), Err(RestartOpen));
+    same(&rt, &federation.send(0, 1, 7), &Err(RestartOpen));
     ticket.give_up();
     Ok(())
 }
@@ -113,16 +127,16 @@ fn a_full_log_goes_again(rt: HostRuntime) -> Result<(), Fail> {
         federation.send(0, 2, 8)?;
     }
     let resumed = restart(&mut federation, 2)?;
-    assert_eq!(rt; resumed.places.as_slice(), [0, 0, 1].as_slice());
-    assert_eq!(rt; resumed.ids.len(), 64);
+    same(&rt, &resumed.places.as_slice(), &[0, 0, 1].as_slice());
+    same(&rt, &resumed.ids.len(), &64);
     for (id, even) in resumed.ids.iter().zip((2u32..=128).step_by(2)) {
-        assert_eq!(rt; *id, even);
+        same(&rt, &*id, &even);
     }
-    assert_eq!(rt; federation.send(1, 0, 9).err(), Some(LogFull));
+    same(&rt, &federation.send(1, 0, 9).err(), &Some(LogFull));
     let resumed = restart(&mut federation, 0)?;
-    assert_eq!(rt; resumed.ids.len(), 0);
+    same(&rt, &resumed.ids.len(), &0);
     // with their sender's fault all are undone
-    assert_eq!(rt; federation.send(1, 0, 9), sent(129, 1));
+    same(&rt, &federation.send(1, 0, 9), &sent(129, 1));
     Ok(())
 }
 
@@ -144,12 +158,12 @@ fn ids_are_spent(rt: HostRuntime) -> Result<(), Fail> {
         undone_sends(&mut federation, 128)?;
     }
     for id in 999_873..=1_000_000 {
-        assert_eq!(rt; federation.send(0, 1, 7), sent(id, 1));
+        same(&rt, &federation.send(0, 1, 7), &sent(id, 1));
     }
     // before spent
-    assert_eq!(rt; federation.send(0, 1, 7), Err(LogFull));
+    same(&rt, &federation.send(0, 1, 7), &Err(LogFull));
     restart(&mut federation, 0)?;
-    assert_eq!(rt; federation.send(0, 1, 7), Err(NumbersSpent));
-    assert_eq!(rt; federation.arrive(1_000_000, 0), Err(NotInLog));
+    same(&rt, &federation.send(0, 1, 7), &Err(NumbersSpent));
+    same(&rt, &federation.arrive(1_000_000, 0), &Err(NotInLog));
     Ok(())
 }

@@ -1,5 +1,5 @@
 // Messages: send and arrive, and the two forcing rules.
-use crate::rig::{deliver, fault, open, open_over, reads, restart, round, sent, told};
+use crate::rig::{deliver, fault, open, open_over, reads, restart, round, same, sent, told};
 use law::Arrived;
 use law::Arrived::Forced;
 use law::Noted::Committed;
@@ -15,11 +15,19 @@ use store::Store;
 #[test]
 fn ids_and_numbers(rt: HostRuntime) -> Result<(), Fail> {
     let mut federation = open(rt.alloc(), 3, 1)?;
-    assert_eq!(rt; federation.send(0, 1, 7), sent(1, 1));
-    assert_eq!(rt; round(&mut federation, 2, &[5]), Ok(Committed(2, None)));
-    assert_eq!(rt; round(&mut federation, 2, &[6]), Ok(Committed(3, None)));
-    assert_eq!(rt; federation.send(2, 1, 8), sent(2, 3));
-    assert_eq!(rt; federation.send(1, 0, 9), sent(3, 1));
+    same(&rt, &federation.send(0, 1, 7), &sent(1, 1));
+    same(
+        &rt,
+        &round(&mut federation, 2, &[5]),
+        &Ok(Committed(2, None)),
+    );
+    same(
+        &rt,
+        &round(&mut federation, 2, &[6]),
+        &Ok(Committed(3, None)),
+    );
+    same(&rt, &federation.send(2, 1, 8), &sent(2, 3));
+    same(&rt, &federation.send(1, 0, 9), &sent(3, 1));
     Ok(())
 }
 
@@ -27,7 +35,7 @@ fn ids_and_numbers(rt: HostRuntime) -> Result<(), Fail> {
 #[test]
 fn refused_sends(rt: HostRuntime) -> Result<(), Fail> {
     let mut federation = open(rt.alloc(), 2, 1)?;
-    assert_eq!(rt; federation.request(0, 0), Ok(0));
+    same(&rt, &federation.request(0, 0), &Ok(0));
     for (from, to, why) in [
         (2, 2, NoCluster),
         (2, 0, NoCluster),
@@ -35,13 +43,13 @@ fn refused_sends(rt: HostRuntime) -> Result<(), Fail> {
         (0, 0, SameCluster),
         (0, 1, RoundOpen),
     ] {
-        assert_eq!(rt; federation.send(from, to, 7), Err(why));
+        same(&rt, &federation.send(from, to, 7), &Err(why));
     }
     // the receiver's round is no hindrance
-    assert_eq!(rt; federation.send(1, 0, 7), sent(1, 1));
+    same(&rt, &federation.send(1, 0, 7), &sent(1, 1));
     let ticket = fault(&mut federation, 0)?;
     for (from, to, why) in [(0, 2, NoCluster), (1, 1, SameCluster), (1, 0, RestartOpen)] {
-        assert_eq!(rt; federation.send(from, to, 7), Err(why));
+        same(&rt, &federation.send(from, to, 7), &Err(why));
     }
     ticket.give_up();
     Ok(())
@@ -51,11 +59,11 @@ fn refused_sends(rt: HostRuntime) -> Result<(), Fail> {
 #[test]
 fn refused_arrivals(rt: HostRuntime) -> Result<(), Fail> {
     let mut federation = open(rt.alloc(), 2, 2)?;
-    assert_eq!(rt; federation.arrive(1, 0), Err(NotInLog));
-    assert_eq!(rt; federation.send(0, 1, 7), sent(1, 1));
-    assert_eq!(rt; federation.send(0, 1, 8), sent(2, 1));
-    assert_eq!(rt; deliver(&mut federation, 1, 1, &[5, 6]), Ok(2));
-    assert_eq!(rt; federation.request(1, 0), Ok(0));
+    same(&rt, &federation.arrive(1, 0), &Err(NotInLog));
+    same(&rt, &federation.send(0, 1, 7), &sent(1, 1));
+    same(&rt, &federation.send(0, 1, 8), &sent(2, 1));
+    same(&rt, &deliver(&mut federation, 1, 1, &[5, 6]), &Ok(2));
+    same(&rt, &federation.request(1, 0), &Ok(0));
     for (id, rank, why) in [
         (3, 2, NoRank),
         (3, 0, NotInLog),
@@ -63,11 +71,11 @@ fn refused_arrivals(rt: HostRuntime) -> Result<(), Fail> {
         (1, 0, Refusal::Delivered),
         (2, 0, RoundOpen),
     ] {
-        assert_eq!(rt; federation.arrive(id, rank), Err(why));
+        same(&rt, &federation.arrive(id, rank), &Err(why));
     }
     let ticket = fault(&mut federation, 0)?;
     for (id, rank, why) in [(3, 2, NoRank), (3, 0, RestartOpen), (1, 0, RestartOpen)] {
-        assert_eq!(rt; federation.arrive(id, rank), Err(why));
+        same(&rt, &federation.arrive(id, rank), &Err(why));
     }
     ticket.give_up();
     Ok(())
@@ -77,12 +85,12 @@ fn refused_arrivals(rt: HostRuntime) -> Result<(), Fail> {
 #[test]
 fn a_copy_of_a_waiting_message_is_refused(rt: HostRuntime) -> Result<(), Fail> {
     let mut federation = open(rt.alloc(), 2, 1)?;
-    assert_eq!(rt; federation.send(0, 1, 7), sent(1, 1));
-    assert_eq!(rt; federation.arrive(1, 0), Ok(Forced(2)));
-    assert_eq!(rt; federation.arrive(1, 0), Err(RoundOpen));
+    same(&rt, &federation.send(0, 1, 7), &sent(1, 1));
+    same(&rt, &federation.arrive(1, 0), &Ok(Forced(2)));
+    same(&rt, &federation.arrive(1, 0), &Err(RoundOpen));
     // it is delivered once
-    assert_eq!(rt; federation.answer(1, 0, 9), Ok(Committed(2, Some(1))));
-    assert_eq!(rt; federation.arrive(1, 0), Err(Refusal::Delivered));
+    same(&rt, &federation.answer(1, 0, 9), &Ok(Committed(2, Some(1))));
+    same(&rt, &federation.arrive(1, 0), &Err(Refusal::Delivered));
     Ok(())
 }
 
@@ -91,14 +99,22 @@ fn a_copy_of_a_waiting_message_is_refused(rt: HostRuntime) -> Result<(), Fail> {
 #[test]
 fn a_late_copy_is_refused(rt: HostRuntime) -> Result<(), Fail> {
     let mut federation = open(rt.alloc(), 2, 1)?;
-    assert_eq!(rt; federation.send(0, 1, 7), sent(1, 1));
-    assert_eq!(rt; deliver(&mut federation, 1, 1, &[5]), Ok(2));
-    assert_eq!(rt; federation.arrive(1, 0), Err(Refusal::Delivered));
-    assert_eq!(rt; round(&mut federation, 0, &[6]), Ok(Committed(2, None)));
-    assert_eq!(rt; round(&mut federation, 1, &[7]), Ok(Committed(3, None)));
-    assert_eq!(rt; federation.arrive(1, 0), Err(Refusal::Delivered));
-    assert_eq!(rt; federation.collect()?.messages, 1);
-    assert_eq!(rt; federation.arrive(1, 0), Err(NotInLog));
+    same(&rt, &federation.send(0, 1, 7), &sent(1, 1));
+    same(&rt, &deliver(&mut federation, 1, 1, &[5]), &Ok(2));
+    same(&rt, &federation.arrive(1, 0), &Err(Refusal::Delivered));
+    same(
+        &rt,
+        &round(&mut federation, 0, &[6]),
+        &Ok(Committed(2, None)),
+    );
+    same(
+        &rt,
+        &round(&mut federation, 1, &[7]),
+        &Ok(Committed(3, None)),
+    );
+    same(&rt, &federation.arrive(1, 0), &Err(Refusal::Delivered));
+    same(&rt, &federation.collect()?.messages, &1);
+    same(&rt, &federation.arrive(1, 0), &Err(NotInLog));
     Ok(())
 }
 
@@ -106,11 +122,11 @@ fn a_late_copy_is_refused(rt: HostRuntime) -> Result<(), Fail> {
 #[test]
 fn a_copy_of_an_undone_message_is_refused(rt: HostRuntime) -> Result<(), Fail> {
     let mut federation = open(rt.alloc(), 2, 1)?;
-    assert_eq!(rt; federation.send(0, 1, 7), sent(1, 1));
+    same(&rt, &federation.send(0, 1, 7), &sent(1, 1));
     let resumed = restart(&mut federation, 0)?;
     assert!(rt; told(&resumed, &[1, 0], &[]));
-    assert_eq!(rt; federation.arrive(1, 0), Err(NotInLog));
-    assert_eq!(rt; federation.send(0, 1, 7), sent(2, 1));
+    same(&rt, &federation.arrive(1, 0), &Err(NotInLog));
+    same(&rt, &federation.send(0, 1, 7), &sent(2, 1));
     Ok(())
 }
 
@@ -119,10 +135,10 @@ fn overtaken<S: Store, R: ForcingRule>(
     rt: &impl Abort,
     federation: &mut federation::Federation<S, R>,
 ) {
-    assert_eq!(rt; federation.send(0, 1, 7), sent(1, 1));
-    assert_eq!(rt; federation.send(0, 1, 8), sent(2, 1));
-    assert_eq!(rt; federation.arrive(2, 0), Ok(Forced(2)));
-    assert_eq!(rt; federation.answer(1, 0, 9), Ok(Committed(2, Some(2))));
+    same(rt, &federation.send(0, 1, 7), &sent(1, 1));
+    same(rt, &federation.send(0, 1, 8), &sent(2, 1));
+    same(rt, &federation.arrive(2, 0), &Ok(Forced(2)));
+    same(rt, &federation.answer(1, 0, 9), &Ok(Committed(2, Some(2))));
 }
 
 // The late older message is no news, and is delivered at once.
@@ -130,8 +146,8 @@ fn overtaken<S: Store, R: ForcingRule>(
 fn on_news_lets_an_older_message_pass(rt: HostRuntime) -> Result<(), Fail> {
     let mut federation = open_over(rt.alloc(), 2, 1, OnNews, Slots::new(rt.alloc())?)?;
     overtaken(&rt, &mut federation);
-    assert_eq!(rt; federation.arrive(1, 0), Ok(Arrived::Delivered(2)));
-    assert_eq!(rt; federation.read(1, 3).err(), Some(NotKept));
+    same(&rt, &federation.arrive(1, 0), &Ok(Arrived::Delivered(2)));
+    same(&rt, &federation.read(1, 3).err(), &Some(NotKept));
     Ok(())
 }
 
@@ -140,8 +156,12 @@ fn on_news_lets_an_older_message_pass(rt: HostRuntime) -> Result<(), Fail> {
 fn always_forces_before_an_older_message(rt: HostRuntime) -> Result<(), Fail> {
     let mut federation = open_over(rt.alloc(), 2, 1, Always, Slots::new(rt.alloc())?)?;
     overtaken(&rt, &mut federation);
-    assert_eq!(rt; federation.arrive(1, 0), Ok(Forced(3)));
-    assert_eq!(rt; federation.answer(1, 0, 10), Ok(Committed(3, Some(1))));
+    same(&rt, &federation.arrive(1, 0), &Ok(Forced(3)));
+    same(
+        &rt,
+        &federation.answer(1, 0, 10),
+        &Ok(Committed(3, Some(1))),
+    );
     assert!(rt; reads(&federation, 1, 3, &[10]));
     Ok(())
 }

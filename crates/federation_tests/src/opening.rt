@@ -1,5 +1,5 @@
 // Which federations open, and what they begin with.
-use crate::rig::{open, open_over, reads};
+use crate::rig::{open, open_over, reads, same};
 use federation::{Closed, Federation, NotOpened};
 use refusal::Refusal::{BadOpen, NoCluster, NotKept};
 use rule::OnNews;
@@ -13,10 +13,10 @@ fn a_new_federation_keeps_zero_words(rt: HostRuntime) -> Result<(), Fail> {
     let federation = open(rt.alloc(), 3, 2)?;
     for cluster in 0..3 {
         assert!(rt; reads(&federation, cluster, 1, &[0, 0]));
-        assert_eq!(rt; federation.read(cluster, 0).err(), Some(NotKept));
-        assert_eq!(rt; federation.read(cluster, 2).err(), Some(NotKept));
+        same(&rt, &federation.read(cluster, 0).err(), &Some(NotKept));
+        same(&rt, &federation.read(cluster, 2).err(), &Some(NotKept));
     }
-    assert_eq!(rt; federation.read(3, 1).err(), Some(NoCluster));
+    same(&rt, &federation.read(3, 1).err(), &Some(NoCluster));
     Ok(())
 }
 
@@ -60,10 +60,10 @@ fn a_store_has_to_be_empty(rt: HostRuntime) -> Result<(), Fail> {
         mut store,
         rule,
     } = back;
-    assert_eq!(rt; why, Closed::Refused(BadOpen));
-    assert_eq!(rt; rule, OnNews);
-    assert_eq!(rt; store.count(), 1);
-    assert_eq!(rt; store.discard(key), Ok(()));
+    same(&rt, &why, &Closed::Refused(BadOpen));
+    same(&rt, &rule, &OnNews);
+    same(&rt, &store.count(), &1);
+    same(&rt, &store.discard(key), &Ok(()));
     assert!(rt; open_over(rt.alloc(), 2, 1, rule, store).is_ok());
     Ok(())
 }

@@ -1,7 +1,7 @@
 // Refused calls change nothing: they are made between the calls of a run, and its answers are as if they had not been made.
 use crate::rig::{
     deliver, dropped, fault_refusal, finish, open, reads, refused_finish, refused_resume, resume,
-    sent, stays, told,
+    same, sent, stays, told,
 };
 use federation::{Faulted, Federation, Ticket, TicketNumbers};
 use law::Arrived::Forced;
@@ -18,23 +18,23 @@ use std::test::Fail;
 // Calls on clusters, ranks and numbers that are none, in a federation of two clusters of two nodes.
 fn none_such(rt: &impl Abort, federation: &mut Federation<Slots, OnNews>) {
     for (cluster, rank, why) in [(2, 0, NoCluster), (0, 2, NoRank), (1, 2, NoRank)] {
-        assert_eq!(rt; federation.request(cluster, rank), Err(why));
-        assert_eq!(rt; federation.answer(cluster, rank, 99), Err(why));
+        same(rt, &federation.request(cluster, rank), &Err(why));
+        same(rt, &federation.answer(cluster, rank, 99), &Err(why));
     }
-    assert_eq!(rt; federation.send(0, 2, 99), Err(NoCluster));
-    assert_eq!(rt; federation.send(1, 1, 99), Err(SameCluster));
-    assert_eq!(rt; federation.arrive(1, 2), Err(NoRank));
-    assert_eq!(rt; federation.trial(2).err(), Some(NoCluster));
-    assert_eq!(rt; federation.read(2, 1).err(), Some(NoCluster));
-    assert_eq!(rt; federation.read(0, 9).err(), Some(NotKept));
-    assert_eq!(rt; fault_refusal(federation, 2), Some(NoCluster));
+    same(rt, &federation.send(0, 2, 99), &Err(NoCluster));
+    same(rt, &federation.send(1, 1, 99), &Err(SameCluster));
+    same(rt, &federation.arrive(1, 2), &Err(NoRank));
+    same(rt, &federation.trial(2).err(), &Some(NoCluster));
+    same(rt, &federation.read(2, 1).err(), &Some(NoCluster));
+    same(rt, &federation.read(0, 9).err(), &Some(NotKept));
+    same(rt, &fault_refusal(federation, 2), &Some(NoCluster));
 }
 
 // Calls on a ticket that is none of this federation, refused for this reason.
 fn no_ticket(rt: &impl Abort, federation: &mut Federation<Slots, OnNews>, why: Refusal) {
     let ticket = Ticket::of_no_restart();
-    assert_eq!(rt; federation.alert(&ticket, 0, 2), Err(NoCluster));
-    assert_eq!(rt; federation.alert(&ticket, 1, 1), Err(SameCluster));
+    same(rt, &federation.alert(&ticket, 0, 2), &Err(NoCluster));
+    same(rt, &federation.alert(&ticket, 1, 1), &Err(SameCluster));
     refused_finish(rt, federation, ticket, why).give_up();
     refused_resume(rt, federation, Ticket::of_no_restart(), why).give_up();
 }
@@ -43,7 +43,7 @@ fn no_ticket(rt: &impl Abort, federation: &mut Federation<Slots, OnNews>, why: R
 fn while_no_restart_is_open(rt: &impl Abort, federation: &mut Federation<Slots, OnNews>) {
     none_such(rt, federation);
     no_ticket(rt, federation, NoRestart);
-    assert_eq!(rt; federation.arrive(9, 0), Err(NotInLog));
+    same(rt, &federation.arrive(9, 0), &Err(NotInLog));
 }
 
 // What is refused in every restart, settled or not.
@@ -51,14 +51,14 @@ fn while_a_restart_is_open(rt: &impl Abort, federation: &mut Federation<Slots, O
     none_such(rt, federation);
     no_ticket(rt, federation, WrongTicket);
     for cluster in 0..2 {
-        assert_eq!(rt; federation.request(cluster, 0), Err(RestartOpen));
-        assert_eq!(rt; federation.answer(cluster, 0, 99), Err(RestartOpen));
-        assert_eq!(rt; federation.trial(cluster).err(), Some(RestartOpen));
-        assert_eq!(rt; fault_refusal(federation, cluster), Some(RestartOpen));
+        same(rt, &federation.request(cluster, 0), &Err(RestartOpen));
+        same(rt, &federation.answer(cluster, 0, 99), &Err(RestartOpen));
+        same(rt, &federation.trial(cluster).err(), &Some(RestartOpen));
+        same(rt, &fault_refusal(federation, cluster), &Some(RestartOpen));
     }
-    assert_eq!(rt; federation.send(0, 1, 99), Err(RestartOpen));
-    assert_eq!(rt; federation.arrive(1, 0), Err(RestartOpen));
-    assert_eq!(rt; federation.collect().err(), Some(RestartOpen));
+    same(rt, &federation.send(0, 1, 99), &Err(RestartOpen));
+    same(rt, &federation.arrive(1, 0), &Err(RestartOpen));
+    same(rt, &federation.collect().err(), &Some(RestartOpen));
 }
 
 // Between the steps of a round that a message forces.
@@ -66,19 +66,19 @@ fn while_a_restart_is_open(rt: &impl Abort, federation: &mut Federation<Slots, O
 fn refused_calls_leave_a_round(rt: HostRuntime) -> Result<(), Fail> {
     let mut federation = open(rt.alloc(), 2, 2)?;
     while_no_restart_is_open(&rt, &mut federation);
-    assert_eq!(rt; federation.send(0, 1, 7), sent(1, 1));
+    same(&rt, &federation.send(0, 1, 7), &sent(1, 1));
     while_no_restart_is_open(&rt, &mut federation);
-    assert_eq!(rt; federation.arrive(1, 1), Ok(Forced(2)));
+    same(&rt, &federation.arrive(1, 1), &Ok(Forced(2)));
     while_no_restart_is_open(&rt, &mut federation);
-    assert_eq!(rt; federation.answer(1, 1, 6), Ok(Missing(1)));
+    same(&rt, &federation.answer(1, 1, 6), &Ok(Missing(1)));
     while_no_restart_is_open(&rt, &mut federation);
     // nobody took it over
-    assert_eq!(rt; federation.request(1, 1), Ok(1));
-    assert_eq!(rt; federation.answer(1, 0, 5), Ok(Committed(2, Some(1))));
+    same(&rt, &federation.request(1, 1), &Ok(1));
+    same(&rt, &federation.answer(1, 0, 5), &Ok(Committed(2, Some(1))));
     while_no_restart_is_open(&rt, &mut federation);
     assert!(rt; reads(&federation, 1, 2, &[5, 6]));
-    assert_eq!(rt; federation.trial(0)?.as_slice(), [1, 2].as_slice());
-    assert_eq!(rt; federation.send(0, 1, 8), sent(2, 1));
+    same(&rt, &federation.trial(0)?.as_slice(), &[1, 2].as_slice());
+    same(&rt, &federation.send(0, 1, 8), &sent(2, 1));
     let collected = federation.collect()?;
     assert!(rt; dropped(&collected, &[1, 2], 1, 0));
     Ok(())
@@ -88,21 +88,21 @@ fn refused_calls_leave_a_round(rt: HostRuntime) -> Result<(), Fail> {
 #[test]
 fn refused_calls_leave_a_restart(rt: HostRuntime) -> Result<(), Fail> {
     let mut federation = open(rt.alloc(), 2, 2)?;
-    assert_eq!(rt; federation.send(0, 1, 7), sent(1, 1));
-    assert_eq!(rt; deliver(&mut federation, 1, 1, &[5, 6]), Ok(2));
+    same(&rt, &federation.send(0, 1, 7), &sent(1, 1));
+    same(&rt, &deliver(&mut federation, 1, 1, &[5, 6]), &Ok(2));
     let Faulted { place, ticket } = federation.fault(1)?;
-    assert_eq!(rt; place, 2);
-    assert_eq!(rt; ticket.numbers(), TicketNumbers { name: 0, count: 1 });
+    same(&rt, &place, &2);
+    same(&rt, &ticket.numbers(), &TicketNumbers { name: 0, count: 1 });
     while_a_restart_is_open(&rt, &mut federation);
-    assert_eq!(rt; federation.alert(&ticket, 1, 0), stays(0));
+    same(&rt, &federation.alert(&ticket, 1, 0), &stays(0));
     while_a_restart_is_open(&rt, &mut federation);
     let settled = finish(&mut federation, ticket)?;
     while_a_restart_is_open(&rt, &mut federation);
     let resumed = resume(&mut federation, settled)?;
     assert!(rt; told(&resumed, &[0, 2], &[1]));
     while_no_restart_is_open(&rt, &mut federation);
-    assert_eq!(rt; federation.arrive(1, 0), Ok(Forced(3)));
-    assert_eq!(rt; federation.send(0, 1, 8), sent(2, 1));
+    same(&rt, &federation.arrive(1, 0), &Ok(Forced(3)));
+    same(&rt, &federation.send(0, 1, 8), &sent(2, 1));
     assert!(rt; reads(&federation, 1, 2, &[5, 6]));
     Ok(())
 }

@@ -1,7 +1,7 @@
 // Restarts: fault, alert, finish and resume.
 use crate::rig::{
-    answer_all, deliver, fault, fault_refusal, finish, open, reads, restart, resume, round, sent,
-    stays, told,
+    answer_all, deliver, fault, fault_refusal, finish, open, reads, restart, resume, round, same,
+    sent, stays, told,
 };
 use federation::{Faulted, Ticket, TicketNumbers};
 use law::Arrived;
@@ -17,11 +17,11 @@ use std::test::Fail;
 #[test]
 fn the_receiver_goes_back_with_its_sender(rt: HostRuntime) -> Result<(), Fail> {
     let mut federation = open(rt.alloc(), 2, 1)?;
-    assert_eq!(rt; federation.send(0, 1, 7), sent(1, 1));
-    assert_eq!(rt; deliver(&mut federation, 1, 1, &[9]), Ok(2));
+    same(&rt, &federation.send(0, 1, 7), &sent(1, 1));
+    same(&rt, &deliver(&mut federation, 1, 1, &[9]), &Ok(2));
     let resumed = restart(&mut federation, 0)?;
     assert!(rt; told(&resumed, &[1, 2], &[]));
-    assert_eq!(rt; federation.arrive(1, 0), Err(NotInLog));
+    same(&rt, &federation.arrive(1, 0), &Err(NotInLog));
     assert!(rt; reads(&federation, 1, 2, &[9]));
     Ok(())
 }
@@ -31,14 +31,18 @@ fn the_receiver_goes_back_with_its_sender(rt: HostRuntime) -> Result<(), Fail> {
 #[test]
 fn a_delivery_after_a_forced_checkpoint_goes_again(rt: HostRuntime) -> Result<(), Fail> {
     let mut federation = open(rt.alloc(), 2, 1)?;
-    assert_eq!(rt; federation.send(0, 1, 7), sent(1, 1));
-    assert_eq!(rt; deliver(&mut federation, 1, 1, &[9]), Ok(2));
+    same(&rt, &federation.send(0, 1, 7), &sent(1, 1));
+    same(&rt, &deliver(&mut federation, 1, 1, &[9]), &Ok(2));
     let resumed = restart(&mut federation, 1)?;
     assert!(rt; told(&resumed, &[0, 2], &[1]));
     // it is news again
-    assert_eq!(rt; federation.arrive(1, 0), Ok(Forced(3)));
-    assert_eq!(rt; federation.answer(1, 0, 10), Ok(Committed(3, Some(1))));
-    assert_eq!(rt; federation.arrive(1, 0), Err(Refusal::Delivered));
+    same(&rt, &federation.arrive(1, 0), &Ok(Forced(3)));
+    same(
+        &rt,
+        &federation.answer(1, 0, 10),
+        &Ok(Committed(3, Some(1))),
+    );
+    same(&rt, &federation.arrive(1, 0), &Err(Refusal::Delivered));
     Ok(())
 }
 
@@ -47,15 +51,19 @@ fn a_delivery_after_a_forced_checkpoint_goes_again(rt: HostRuntime) -> Result<()
 #[test]
 fn of_two_out_of_order_only_the_older_goes_again(rt: HostRuntime) -> Result<(), Fail> {
     let mut federation = open(rt.alloc(), 2, 1)?;
-    assert_eq!(rt; federation.send(0, 1, 7), sent(1, 1));
-    assert_eq!(rt; round(&mut federation, 0, &[5]), Ok(Committed(2, None)));
-    assert_eq!(rt; federation.send(0, 1, 8), sent(2, 2));
-    assert_eq!(rt; deliver(&mut federation, 2, 1, &[9]), Ok(2));
-    assert_eq!(rt; federation.arrive(1, 0), Ok(Arrived::Delivered(2)));
+    same(&rt, &federation.send(0, 1, 7), &sent(1, 1));
+    same(
+        &rt,
+        &round(&mut federation, 0, &[5]),
+        &Ok(Committed(2, None)),
+    );
+    same(&rt, &federation.send(0, 1, 8), &sent(2, 2));
+    same(&rt, &deliver(&mut federation, 2, 1, &[9]), &Ok(2));
+    same(&rt, &federation.arrive(1, 0), &Ok(Arrived::Delivered(2)));
     let resumed = restart(&mut federation, 0)?;
     assert!(rt; told(&resumed, &[2, 2], &[1]));
-    assert_eq!(rt; federation.arrive(2, 0), Err(NotInLog));
-    assert_eq!(rt; deliver(&mut federation, 1, 1, &[10]), Ok(3));
+    same(&rt, &federation.arrive(2, 0), &Err(NotInLog));
+    same(&rt, &deliver(&mut federation, 1, 1, &[10]), &Ok(3));
     Ok(())
 }
 
@@ -63,12 +71,16 @@ fn of_two_out_of_order_only_the_older_goes_again(rt: HostRuntime) -> Result<(), 
 #[test]
 fn a_delivery_before_the_checkpoint_stands(rt: HostRuntime) -> Result<(), Fail> {
     let mut federation = open(rt.alloc(), 2, 1)?;
-    assert_eq!(rt; federation.send(0, 1, 7), sent(1, 1));
-    assert_eq!(rt; deliver(&mut federation, 1, 1, &[9]), Ok(2));
-    assert_eq!(rt; round(&mut federation, 1, &[10]), Ok(Committed(3, None)));
+    same(&rt, &federation.send(0, 1, 7), &sent(1, 1));
+    same(&rt, &deliver(&mut federation, 1, 1, &[9]), &Ok(2));
+    same(
+        &rt,
+        &round(&mut federation, 1, &[10]),
+        &Ok(Committed(3, None)),
+    );
     let resumed = restart(&mut federation, 1)?;
     assert!(rt; told(&resumed, &[0, 3], &[]));
-    assert_eq!(rt; federation.arrive(1, 0), Err(Refusal::Delivered));
+    same(&rt, &federation.arrive(1, 0), &Err(Refusal::Delivered));
     Ok(())
 }
 
@@ -76,18 +88,19 @@ fn a_delivery_before_the_checkpoint_stands(rt: HostRuntime) -> Result<(), Fail> 
 #[test]
 fn a_fault_drops_every_round(rt: HostRuntime) -> Result<(), Fail> {
     let mut federation = open(rt.alloc(), 2, 2)?;
-    assert_eq!(rt; federation.send(0, 1, 7), sent(1, 1));
-    assert_eq!(rt; federation.arrive(1, 0), Ok(Forced(2)));
-    assert_eq!(rt; federation.request(0, 1), Ok(1));
-    assert_eq!(rt; federation.answer(0, 0, 5), Ok(Missing(1)));
+    same(&rt, &federation.send(0, 1, 7), &sent(1, 1));
+    same(&rt, &federation.arrive(1, 0), &Ok(Forced(2)));
+    same(&rt, &federation.request(0, 1), &Ok(1));
+    same(&rt, &federation.answer(0, 0, 5), &Ok(Missing(1)));
     let resumed = restart(&mut federation, 1)?;
     assert!(rt; told(&resumed, &[0, 1], &[1]));
-    assert_eq!(rt; federation.answer(0, 1, 6), Err(NoRound));
-    assert_eq!(rt; federation.answer(1, 1, 6), Err(NoRound));
-    assert_eq!(rt; federation.arrive(1, 1), Ok(Forced(2)));
-    assert_eq!(rt;
-        answer_all(&mut federation, 1, &[8, 9]),
-        Ok(Committed(2, Some(1)))
+    same(&rt, &federation.answer(0, 1, 6), &Err(NoRound));
+    same(&rt, &federation.answer(1, 1, 6), &Err(NoRound));
+    same(&rt, &federation.arrive(1, 1), &Ok(Forced(2)));
+    same(
+        &rt,
+        &answer_all(&mut federation, 1, &[8, 9]),
+        &Ok(Committed(2, Some(1))),
     );
     Ok(())
 }
@@ -96,19 +109,19 @@ fn a_fault_drops_every_round(rt: HostRuntime) -> Result<(), Fail> {
 #[test]
 fn refused_faults(rt: HostRuntime) -> Result<(), Fail> {
     let mut federation = open(rt.alloc(), 2, 1)?;
-    assert_eq!(rt; fault_refusal(&mut federation, 2), Some(NoCluster));
+    same(&rt, &fault_refusal(&mut federation, 2), &Some(NoCluster));
     let Faulted { place, ticket } = federation.fault(0)?;
-    assert_eq!(rt; place, 1);
-    assert_eq!(rt; ticket.numbers(), TicketNumbers { name: 0, count: 1 });
+    same(&rt, &place, &1);
+    same(&rt, &ticket.numbers(), &TicketNumbers { name: 0, count: 1 });
     // before the restart
-    assert_eq!(rt; fault_refusal(&mut federation, 2), Some(NoCluster));
-    assert_eq!(rt; fault_refusal(&mut federation, 1), Some(RestartOpen));
-    assert_eq!(rt; fault_refusal(&mut federation, 0), Some(RestartOpen));
+    same(&rt, &fault_refusal(&mut federation, 2), &Some(NoCluster));
+    same(&rt, &fault_refusal(&mut federation, 1), &Some(RestartOpen));
+    same(&rt, &fault_refusal(&mut federation, 0), &Some(RestartOpen));
     let settled = finish(&mut federation, ticket)?;
     let resumed = resume(&mut federation, settled)?;
     assert!(rt; told(&resumed, &[1, 0], &[]));
     let ticket = fault(&mut federation, 1)?;
-    assert_eq!(rt; ticket.numbers(), TicketNumbers { name: 0, count: 2 });
+    same(&rt, &ticket.numbers(), &TicketNumbers { name: 0, count: 2 });
     ticket.give_up();
     Ok(())
 }
@@ -125,7 +138,7 @@ fn alerts_without_a_restart(rt: HostRuntime) -> Result<(), Fail> {
         (1, 1, SameCluster),
         (0, 1, NoRestart),
     ] {
-        assert_eq!(rt; federation.alert(&none, from, to), Err(why));
+        same(&rt, &federation.alert(&none, from, to), &Err(why));
     }
     none.give_up();
     Ok(())
@@ -143,15 +156,15 @@ fn refused_alerts(rt: HostRuntime) -> Result<(), Fail> {
         (1, 0, NoAlert),
         (0, 1, WrongTicket),
     ] {
-        assert_eq!(rt; federation.alert(&none, from, to), Err(why));
+        same(&rt, &federation.alert(&none, from, to), &Err(why));
     }
     none.give_up();
     // only the failed cluster alerts
-    assert_eq!(rt; federation.alert(&ticket, 1, 2), Err(NoAlert));
-    assert_eq!(rt; federation.alert(&ticket, 0, 1), stays(0));
+    same(&rt, &federation.alert(&ticket, 1, 2), &Err(NoAlert));
+    same(&rt, &federation.alert(&ticket, 0, 1), &stays(0));
     // it was carried
-    assert_eq!(rt; federation.alert(&ticket, 0, 1), Err(NoAlert));
-    assert_eq!(rt; federation.alert(&ticket, 0, 2), stays(0));
+    same(&rt, &federation.alert(&ticket, 0, 1), &Err(NoAlert));
+    same(&rt, &federation.alert(&ticket, 0, 2), &stays(0));
     let settled = finish(&mut federation, ticket)?;
     let resumed = resume(&mut federation, settled)?;
     assert!(rt; told(&resumed, &[1, 0, 0], &[]));

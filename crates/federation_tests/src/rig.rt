@@ -9,9 +9,15 @@ use refusal::Refusal;
 use rule::{ForcingRule, OnNews};
 use slots::Slots;
 use std::alloc::Global;
+use std::fmt::Debug;
 use std::process::Abort;
 use std::test::Fail;
 use store::Store;
+
+// Asserts that two values are the same: a function, so that what the macro does is proved once, and not in every test.
+pub fn same<T: PartialEq + Debug>(rt: &impl Abort, told: &T, expected: &T) {
+    assert_eq!(rt; told, expected);
+}
 
 // Opens a federation with the name 0.
 pub fn open_over<S: Store + Drop, R: ForcingRule + Drop>(
@@ -88,7 +94,7 @@ pub fn refused_finish<S: Store, R: ForcingRule>(
             panic!(rt; "finished")
         }
         Err(Returned { why, ticket }) => {
-            assert_eq!(rt; why, expected);
+            same(rt, &why, &expected);
             ticket
         }
     }
@@ -105,7 +111,7 @@ pub fn refused_resume<S: Store, R: ForcingRule>(
         Ok(_) => panic!(rt; "resumed"),
         Err(back) => {
             let Returned { why, ticket } = back;
-            assert_eq!(rt; why, expected);
+            same(rt, &why, &expected);
             ticket
         }
     }

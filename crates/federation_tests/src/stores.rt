@@ -1,6 +1,6 @@
 // The same calls over every store: slots, a journal, a pair, and stores that are taken for ones with sides.
 use crate::rig::{
-    answer_all, deliver, dropped, fault, open_over, reads, restart, round, sent, told,
+    answer_all, deliver, dropped, fault, open_over, reads, restart, round, same, sent, told,
 };
 use federation::Federation;
 use journal::{Journal, SIZE};
@@ -18,20 +18,33 @@ use store::{SidedStore, Store};
 
 // Rounds, messages, a restart and a collect over any store, with what each call answers.
 fn answers<S: Store>(rt: &impl Abort, federation: &mut Federation<S, OnNews>) -> Result<(), Fail> {
-    assert_eq!(rt; round(federation, 0, &[10, 11]), Ok(Committed(2, None)));
-    assert_eq!(rt; federation.send(0, 1, 7), sent(1, 2));
-    assert_eq!(rt; federation.arrive(1, 1), Ok(Forced(2)));
-    assert_eq!(rt;
-        answer_all(federation, 1, &[20, 21]),
-        Ok(Committed(2, Some(1)))
+    same(
+        rt,
+        &round(federation, 0, &[10, 11]),
+        &Ok(Committed(2, None)),
     );
-    assert_eq!(rt; round(federation, 1, &[22, 23]), Ok(Committed(3, None)));
-    assert_eq!(rt; federation.send(1, 2, 8), sent(2, 3));
-    assert_eq!(rt; deliver(federation, 2, 2, &[30, 31]), Ok(2));
-    assert_eq!(rt; federation.trial(0)?.as_slice(), [2, 2, 2].as_slice());
+    same(rt, &federation.send(0, 1, 7), &sent(1, 2));
+    same(rt, &federation.arrive(1, 1), &Ok(Forced(2)));
+    same(
+        rt,
+        &answer_all(federation, 1, &[20, 21]),
+        &Ok(Committed(2, Some(1))),
+    );
+    same(
+        rt,
+        &round(federation, 1, &[22, 23]),
+        &Ok(Committed(3, None)),
+    );
+    same(rt, &federation.send(1, 2, 8), &sent(2, 3));
+    same(rt, &deliver(federation, 2, 2, &[30, 31]), &Ok(2));
+    same(rt, &federation.trial(0)?.as_slice(), &[2, 2, 2].as_slice());
     let resumed = restart(federation, 1)?;
     assert!(rt; told(&resumed, &[0, 3, 2], &[]));
-    assert_eq!(rt; round(federation, 2, &[32, 33]), Ok(Committed(3, None)));
+    same(
+        rt,
+        &round(federation, 2, &[32, 33]),
+        &Ok(Committed(3, None)),
+    );
     let collected = federation.collect()?;
     assert!(rt; dropped(&collected, &[2, 2, 3], 4, 0));
     Ok(())
@@ -82,7 +95,7 @@ fn pairs_answer_the_same(rt: HostRuntime) -> Result<(), Fail> {
         let pair = Pair::new(Slots::new(rt.alloc())?, journal);
         let mut federation = open_over(rt.alloc(), 3, 2, OnNews, pair)?;
         if lost > 0 {
-            assert_eq!(rt; federation.lose(lost), Ok(()));
+            same(&rt, &federation.lose(lost), &Ok(()));
         }
         answers(&rt, &mut federation)?;
         words(&rt, &federation);
@@ -97,12 +110,12 @@ fn lose_and_rebuild<S: SidedStore>(
     lost: u8,
     other: u8,
 ) -> Result<(), Fail> {
-    assert_eq!(rt; federation.lose(lost), Ok(()));
+    same(rt, &federation.lose(lost), &Ok(()));
     answers(rt, federation)?;
     words(rt, federation);
-    assert_eq!(rt; federation.rebuild(lost), Ok(()));
+    same(rt, &federation.rebuild(lost), &Ok(()));
     words(rt, federation);
-    assert_eq!(rt; federation.lose(other), Ok(()));
+    same(rt, &federation.lose(other), &Ok(()));
     words(rt, federation);
     Ok(())
 }
@@ -131,24 +144,24 @@ fn refused_sides(rt: HostRuntime) -> Result<(), Fail> {
     let pair = Pair::new(Slots::new(rt.alloc())?, Slots::new(rt.alloc())?);
     let mut federation = open_over(rt.alloc(), 2, 1, OnNews, pair)?;
     // sides count from 1
-    assert_eq!(rt; federation.lose(0), NO_SIDE);
-    assert_eq!(rt; federation.lose(3), NO_SIDE);
+    same(&rt, &federation.lose(0), &NO_SIDE);
+    same(&rt, &federation.lose(3), &NO_SIDE);
     // before not out
-    assert_eq!(rt; federation.rebuild(3), NO_SIDE);
+    same(&rt, &federation.rebuild(3), &NO_SIDE);
     // it is not out
-    assert_eq!(rt; federation.rebuild(1), SIDE_OUT);
+    same(&rt, &federation.rebuild(1), &SIDE_OUT);
     let ticket = fault(&mut federation, 0)?;
-    assert_eq!(rt; federation.lose(1), Ok(()));
+    same(&rt, &federation.lose(1), &Ok(()));
     // before a side is out
-    assert_eq!(rt; federation.lose(3), NO_SIDE);
-    assert_eq!(rt; federation.lose(1), SIDE_OUT);
-    assert_eq!(rt; federation.lose(2), SIDE_OUT);
-    assert_eq!(rt; federation.rebuild(2), SIDE_OUT);
-    assert_eq!(rt; federation.rebuild(0), NO_SIDE);
-    assert_eq!(rt; federation.rebuild(1), Ok(()));
-    assert_eq!(rt; federation.rebuild(1), SIDE_OUT);
+    same(&rt, &federation.lose(3), &NO_SIDE);
+    same(&rt, &federation.lose(1), &SIDE_OUT);
+    same(&rt, &federation.lose(2), &SIDE_OUT);
+    same(&rt, &federation.rebuild(2), &SIDE_OUT);
+    same(&rt, &federation.rebuild(0), &NO_SIDE);
+    same(&rt, &federation.rebuild(1), &Ok(()));
+    same(&rt, &federation.rebuild(1), &SIDE_OUT);
     // now the other can go
-    assert_eq!(rt; federation.lose(2), Ok(()));
+    same(&rt, &federation.lose(2), &Ok(()));
     ticket.give_up();
     Ok(())
 }
@@ -161,8 +174,8 @@ fn a_store_without_sides(rt: HostRuntime) -> Result<(), Fail> {
     };
     let mut federation = open_over(rt.alloc(), 3, 2, OnNews, store)?;
     for side in 0..=3 {
-        assert_eq!(rt; federation.lose(side), NO_SIDE);
-        assert_eq!(rt; federation.rebuild(side), NO_SIDE);
+        same(&rt, &federation.lose(side), &NO_SIDE);
+        same(&rt, &federation.rebuild(side), &NO_SIDE);
     }
     answers(&rt, &mut federation)?;
     words(&rt, &federation);
@@ -178,23 +191,24 @@ fn full_store<S: Store>(
 ) -> Result<(), Fail> {
     for cluster in 0..8 {
         for number in 2..=8 {
-            assert_eq!(rt;
-                round(federation, cluster, &[7, 8]),
-                Ok(Committed(number, None))
+            same(
+                rt,
+                &round(federation, cluster, &[7, 8]),
+                &Ok(Committed(number, None)),
             );
         }
     }
-    assert_eq!(rt; federation.request(3, 0), Ok(0));
-    assert_eq!(rt; federation.answer(3, 1, 6), Ok(Missing(1)));
-    assert_eq!(rt; federation.answer(3, 1, 6), Err(Answered));
-    assert_eq!(rt; federation.answer(3, 0, 5), Err(Refusal::Store(full)));
+    same(rt, &federation.request(3, 0), &Ok(0));
+    same(rt, &federation.answer(3, 1, 6), &Ok(Missing(1)));
+    same(rt, &federation.answer(3, 1, 6), &Err(Answered));
+    same(rt, &federation.answer(3, 0, 5), &Err(Refusal::Store(full)));
     // not answered
-    assert_eq!(rt; federation.answer(3, 0, 5), Err(Refusal::Store(full)));
-    assert_eq!(rt; federation.read(3, 9).err(), Some(NotKept));
+    same(rt, &federation.answer(3, 0, 5), &Err(Refusal::Store(full)));
+    same(rt, &federation.read(3, 9).err(), &Some(NotKept));
     // the round is open
-    assert_eq!(rt; federation.request(3, 1), Ok(0));
-    assert_eq!(rt; federation.collect()?.checkpoints, 56);
-    assert_eq!(rt; federation.answer(3, 0, 4), Ok(Committed(9, None)));
+    same(rt, &federation.request(3, 1), &Ok(0));
+    same(rt, &federation.collect()?.checkpoints, &56);
+    same(rt, &federation.answer(3, 0, 4), &Ok(Committed(9, None)));
     assert!(rt; reads(federation, 3, 9, &[4, 6]));
     Ok(())
 }
@@ -229,22 +243,24 @@ fn a_full_store_holds_a_message_up(rt: HostRuntime) -> Result<(), Fail> {
     let mut federation = open_over(rt.alloc(), 8, 1, OnNews, Slots::new(rt.alloc())?)?;
     for cluster in 0..8 {
         for number in 2..=8 {
-            assert_eq!(rt;
-                round(&mut federation, cluster, &[7]),
-                Ok(Committed(number, None))
+            same(
+                &rt,
+                &round(&mut federation, cluster, &[7]),
+                &Ok(Committed(number, None)),
             );
         }
     }
-    assert_eq!(rt; federation.send(0, 1, 9), sent(1, 8));
-    assert_eq!(rt; federation.arrive(1, 0), Ok(Forced(9)));
-    assert_eq!(rt;
-        federation.answer(1, 0, 6),
-        Err(Refusal::Store(StoreRefusal::Full(0)))
+    same(&rt, &federation.send(0, 1, 9), &sent(1, 8));
+    same(&rt, &federation.arrive(1, 0), &Ok(Forced(9)));
+    same(
+        &rt,
+        &federation.answer(1, 0, 6),
+        &Err(Refusal::Store(StoreRefusal::Full(0))),
     );
     // it is not delivered
-    assert_eq!(rt; federation.arrive(1, 0), Err(RoundOpen));
-    assert_eq!(rt; federation.collect()?.messages, 0);
-    assert_eq!(rt; federation.answer(1, 0, 6), Ok(Committed(9, Some(1))));
-    assert_eq!(rt; federation.arrive(1, 0), Err(Refusal::Delivered));
+    same(&rt, &federation.arrive(1, 0), &Err(RoundOpen));
+    same(&rt, &federation.collect()?.messages, &0);
+    same(&rt, &federation.answer(1, 0, 6), &Ok(Committed(9, Some(1))));
+    same(&rt, &federation.arrive(1, 0), &Err(Refusal::Delivered));
     Ok(())
 }

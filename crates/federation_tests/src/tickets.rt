@@ -2,7 +2,7 @@
 // an earlier restart is the ticket of a twin: another federation of the same name.
 use crate::rig::{
     fault, fault_refusal, finish, reads, refused_finish, refused_resume, restart, resume, round,
-    stays, told,
+    same, stays, told,
 };
 use federation::{Federation, NotOpened, Ticket, TicketNumbers};
 use refusal::Refusal::{NoAlert, NoRestart, RestartOpen, WrongTicket};
@@ -30,9 +30,13 @@ fn a_ticket_has_name_and_count(rt: HostRuntime) -> Result<(), Fail> {
     let mut federation = named(rt.alloc(), 7)?;
     restart(&mut federation, 1)?;
     let ticket = fault(&mut federation, 0)?;
-    assert_eq!(rt; ticket.numbers(), TicketNumbers { name: 7, count: 2 });
+    same(&rt, &ticket.numbers(), &TicketNumbers { name: 7, count: 2 });
     let settled = finish(&mut federation, ticket)?;
-    assert_eq!(rt; settled.numbers(), TicketNumbers { name: 7, count: 2 });
+    same(
+        &rt,
+        &settled.numbers(),
+        &TicketNumbers { name: 7, count: 2 },
+    );
     let resumed = resume(&mut federation, settled)?;
     assert!(rt; told(&resumed, &[1, 0], &[]));
     Ok(())
@@ -46,18 +50,26 @@ fn a_ticket_of_an_earlier_restart(rt: HostRuntime) -> Result<(), Fail> {
     restart(&mut federation, 0)?;
     let earlier = fault(&mut twin, 0)?;
     let newest = fault(&mut federation, 0).expect(&rt, "fault");
-    assert_eq!(rt; earlier.numbers(), TicketNumbers { name: 7, count: 1 });
-    assert_eq!(rt; newest.numbers(), TicketNumbers { name: 7, count: 2 });
-    assert_eq!(rt; federation.alert(&earlier, 0, 1), Err(WrongTicket));
+    same(
+        &rt,
+        &earlier.numbers(),
+        &TicketNumbers { name: 7, count: 1 },
+    );
+    same(&rt, &newest.numbers(), &TicketNumbers { name: 7, count: 2 });
+    same(&rt, &federation.alert(&earlier, 0, 1), &Err(WrongTicket));
     let earlier = refused_finish(&rt, &mut federation, earlier, WrongTicket);
-    assert_eq!(rt; earlier.numbers(), TicketNumbers { name: 7, count: 1 });
+    same(
+        &rt,
+        &earlier.numbers(),
+        &TicketNumbers { name: 7, count: 1 },
+    );
     // it still waited
-    assert_eq!(rt; federation.alert(&newest, 0, 1), stays(0));
+    same(&rt, &federation.alert(&newest, 0, 1), &stays(0));
     let newest = finish(&mut federation, newest).expect(&rt, "finish");
     let earlier = finish(&mut twin, earlier).expect(&rt, "finish");
     let earlier = refused_resume(&rt, &mut federation, earlier, WrongTicket);
     let resumed = resume(&mut federation, newest).expect(&rt, "resume");
-    assert_eq!(rt; resumed.places.as_slice(), [1, 0].as_slice());
+    same(&rt, &resumed.places.as_slice(), &[1, 0].as_slice());
     let resumed = resume(&mut twin, earlier)?;
     assert!(rt; told(&resumed, &[1, 0], &[]));
     Ok(())
@@ -70,7 +82,7 @@ fn a_ticket_after_its_restart(rt: HostRuntime) -> Result<(), Fail> {
     let mut twin = named(rt.alloc(), 7)?;
     restart(&mut federation, 0)?;
     let ticket = fault(&mut twin, 0)?;
-    assert_eq!(rt; federation.alert(&ticket, 0, 1), Err(NoRestart));
+    same(&rt, &federation.alert(&ticket, 0, 1), &Err(NoRestart));
     let ticket = refused_finish(&rt, &mut federation, ticket, NoRestart);
     let settled = finish(&mut twin, ticket)?;
     let settled = refused_resume(&rt, &mut federation, settled, NoRestart);
@@ -86,8 +98,12 @@ fn a_ticket_of_another_federation(rt: HostRuntime) -> Result<(), Fail> {
     let mut other = named(rt.alloc(), 8)?;
     let own = fault(&mut federation, 0)?;
     let foreign = fault(&mut other, 0).expect(&rt, "fault");
-    assert_eq!(rt; foreign.numbers(), TicketNumbers { name: 8, count: 1 });
-    assert_eq!(rt; federation.alert(&foreign, 0, 1), Err(WrongTicket));
+    same(
+        &rt,
+        &foreign.numbers(),
+        &TicketNumbers { name: 8, count: 1 },
+    );
+    same(&rt, &federation.alert(&foreign, 0, 1), &Err(WrongTicket));
     let foreign = refused_finish(&rt, &mut federation, foreign, WrongTicket);
     let own = finish(&mut federation, own).expect(&rt, "finish");
     let foreign = finish(&mut other, foreign).expect(&rt, "finish");
@@ -104,7 +120,7 @@ fn a_ticket_of_a_twin_serves(rt: HostRuntime) -> Result<(), Fail> {
     let mut twin = named(rt.alloc(), 7)?;
     fault(&mut federation, 0)?.give_up();
     let ticket = fault(&mut twin, 1)?;
-    assert_eq!(rt; federation.alert(&ticket, 0, 1), stays(0));
+    same(&rt, &federation.alert(&ticket, 0, 1), &stays(0));
     let settled = finish(&mut federation, ticket)?;
     let resumed = resume(&mut federation, settled)?;
     assert!(rt; told(&resumed, &[1, 0], &[]));
@@ -122,12 +138,12 @@ fn a_ticket_of_another_stage(rt: HostRuntime) -> Result<(), Fail> {
     let settled = finish(&mut twin, travelling).expect(&rt, "finish");
     let settled = refused_resume(&rt, &mut federation, settled, WrongTicket);
     // the restart goes on
-    assert_eq!(rt; federation.alert(&own, 0, 1), stays(0));
+    same(&rt, &federation.alert(&own, 0, 1), &stays(0));
     let own = finish(&mut federation, own).expect(&rt, "finish");
     resume(&mut twin, settled).expect(&rt, "resume");
     let travelling = fault(&mut third, 0).expect(&rt, "fault");
     // before the ticket
-    assert_eq!(rt; federation.alert(&travelling, 0, 1), Err(NoAlert));
+    same(&rt, &federation.alert(&travelling, 0, 1), &Err(NoAlert));
     refused_finish(&rt, &mut federation, travelling, WrongTicket).give_up();
     let resumed = resume(&mut federation, own)?;
     assert!(rt; told(&resumed, &[1, 0], &[]));
@@ -139,13 +155,17 @@ fn a_ticket_of_another_stage(rt: HostRuntime) -> Result<(), Fail> {
 fn a_ticket_of_no_restart(rt: HostRuntime) -> Result<(), Fail> {
     let mut federation = named(rt.alloc(), 0)?;
     let travelling = Ticket::of_no_restart();
-    assert_eq!(rt; travelling.numbers(), TicketNumbers { name: 0, count: 0 });
-    assert_eq!(rt; federation.alert(&travelling, 0, 1), Err(NoRestart));
+    same(
+        &rt,
+        &travelling.numbers(),
+        &TicketNumbers { name: 0, count: 0 },
+    );
+    same(&rt, &federation.alert(&travelling, 0, 1), &Err(NoRestart));
     let travelling = refused_finish(&rt, &mut federation, travelling, NoRestart);
     let settled = Ticket::of_no_restart();
     let settled = refused_resume(&rt, &mut federation, settled, NoRestart);
     let own = fault(&mut federation, 0).expect(&rt, "fault");
-    assert_eq!(rt; federation.alert(&travelling, 0, 1), Err(WrongTicket));
+    same(&rt, &federation.alert(&travelling, 0, 1), &Err(WrongTicket));
     refused_finish(&rt, &mut federation, travelling, WrongTicket).give_up();
     let settled = refused_resume(&rt, &mut federation, settled, WrongTicket);
     let own = finish(&mut federation, own).expect(&rt, "finish");
@@ -161,9 +181,9 @@ fn a_ticket_given_up(rt: HostRuntime) -> Result<(), Fail> {
     let mut federation = named(rt.alloc(), 7)?;
     let ticket = fault(&mut federation, 0)?;
     finish(&mut federation, ticket)?.give_up();
-    assert_eq!(rt; fault_refusal(&mut federation, 1), Some(RestartOpen));
-    assert_eq!(rt; round(&mut federation, 1, &[5]), Err(RestartOpen));
-    assert_eq!(rt; federation.collect().err(), Some(RestartOpen));
+    same(&rt, &fault_refusal(&mut federation, 1), &Some(RestartOpen));
+    same(&rt, &round(&mut federation, 1, &[5]), &Err(RestartOpen));
+    same(&rt, &federation.collect().err(), &Some(RestartOpen));
     let none = Ticket::of_no_restart();
     refused_resume(&rt, &mut federation, none, WrongTicket).give_up();
     assert!(rt; reads(&federation, 1, 1, &[0]));
