@@ -1,5 +1,6 @@
 -- A store that took the words refused nothing; and what the answers of a round count and give.
-use Rattle.std.proofs.Common.{◌≡◌, ℕ, suc, not, List, [], ◌∷◌, map, length, filter, slice_index, slice_index_or, EachIndex, unwrap_or, is_some, Some, None, Ok, Option, Result, refl, ap, ap₂, arith}
+use Rattle.std.proofs.Common.{◌≡◌, ℕ, suc, ◌≤◌, cond, List, [], ◌∷◌, map, length, sum_by, slice_index, slice_index_or, EachIndex, unwrap_or, is_some, Some, None, Ok, Option, Result, refl, ap₂, arith}
+use Rattle.std.proofs.lemmas.List.Sums.{sum_by-cons}
 use Rattle.refusal.specs.declared.StoreRefusal.{StoreRefusal}
 use Rattle.refusal.specs.Answers.{replied}
 use Rattle.law.specs.Book.{or_zero}
@@ -14,10 +15,15 @@ kept_none None e = refl
 kept_none (Some why) e = let z : ◌≡◌ {A = ℕ} 0 1 = cc in absurd (omega arith)
 
 -- as many answers lack as are none
-pub lacking_kept : (xs : List (Option ℕ)) → length (filter (λ o. not (is_some o)) xs) ≡ missing xs
-lacking_kept [] = refl
-lacking_kept (Some w ∷ xs) = lacking_kept xs
-lacking_kept (None ∷ xs) = ap suc (lacking_kept xs)
+pub lacking_sum : (xs : List (Option ℕ)) → sum_by (λ o. cond (is_some o) 0 1) xs ≡ missing xs
+lacking_sum [] = refl
+lacking_sum (Some w ∷ xs) = let rest = lacking_sum xs in let all = sum_by-cons (λ o. cond (is_some o) 0 1) (Some w) xs in omega arith
+lacking_sum (None ∷ xs) = let rest = lacking_sum xs in let all = sum_by-cons (λ o. cond (is_some o) 0 1) None xs in omega arith
+
+pub lacking_few : (xs : List (Option ℕ)) → missing xs ≤ length xs
+lacking_few [] = omega arith
+lacking_few (Some w ∷ xs) = let rest = lacking_few xs in omega arith
+lacking_few (None ∷ xs) = let rest = lacking_few xs in omega arith
 
 -- the words that stand for answers, place by place
 pub words_are : (ws : List ℕ) (xs : List (Option ℕ)) → length xs ≡ length ws → EachIndex ws (λ i. slice_index ws i ≡ unwrap_or (slice_index_or xs i None) 0) → ws ≡ map or_zero xs

@@ -47,7 +47,11 @@ pub(crate) fn missing(answers: &[Option<u64>]) -> u8
     requires { length answers.now ≤ 32 }
     ensures { result ≡ lacking answers.now }
 {
-    answers.iter().filter(|answer| answer.is_none()).count() as u8
+    let left: usize = answers
+        .iter()
+        .map(|answer| usize::from(answer.is_none()))
+        .sum();
+    left as u8
 }
 
 // The words that the nodes have given.

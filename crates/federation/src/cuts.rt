@@ -53,8 +53,8 @@ pub(crate) fn resume<S: Store>(
     ensures answer { resume_told result ≡ resume_tells (view book.old (S.Store.model store.old)) (numbered ticket) }
     ensures after { view book.new (S.Store.model store.new) ≡ resume_book (view book.old (S.Store.model store.old)) (numbered ticket) }
 {
-    let restart = opened(book, ticket, true)?;
-    Ok(go_back(book, store, restart.places))
+    let places = opened(book, ticket, true)?.places;
+    Ok(go_back(book, store, places))
 }
 
 // How many checkpoints these clusters keep: of more than eight, the byte that tells it might be too small.

@@ -1,5 +1,5 @@
 // Fault, alert and finish: a restart is opened, its alerts are carried, and it is settled.
-ghost use Rattle.std.specs.Prelude.{◌≡◌, ◌<◌, true, IfOk, IfErr, OnOk, Some, None};
+ghost use Rattle.std.specs.Prelude.{◌≡◌, ◌<◌, true, is_some, IfOk, IfErr, OnOk, Some, None};
 ghost use Rattle.store.specs.Table.{Model};
 ghost use Rattle.refusal.specs.Answers.{replied};
 ghost use Rattle.law.specs.Book.{number as number_in};
@@ -67,9 +67,9 @@ fn waits(restart: &Restart, from: usize, to: usize) -> bool
     restart.waiting[from].to[to]
 }
 
-// The open restart, in which this alert waits and may be carried on this ticket.
-fn alerted(book: &Book, ticket: TicketNumbers, from: u8, to: u8) -> Result<Restart, Refusal>
-    ensures opened { IfOk result (λ restart. book.now.restart ≡ Some restart) }
+// Whether this alert waits in the open restart and may be carried on this ticket. No copy of the restart is handed on.
+fn alerted(book: &Book, ticket: TicketNumbers, from: u8, to: u8) -> Result<(), Refusal>
+    ensures opened { OnOk result (is_some book.now.restart ≡ true) }
     ensures accepts { OnOk result (alert_refusal (bare book.now) (numbered ticket) from to ≡ None) }
     ensures refuses { IfErr result (λ why. alert_refusal (bare book.now) (numbered ticket) from to ≡ Some why) }
 {
@@ -81,14 +81,16 @@ fn alerted(book: &Book, ticket: TicketNumbers, from: u8, to: u8) -> Result<Resta
     if from == to {
         return Err(Refusal::SameCluster);
     }
-    let restart = book.restart.ok_or(Refusal::NoRestart)?;
-    if !waits(&restart, i, j) {
+    let Some(restart) = &book.restart else {
+        return Err(Refusal::NoRestart);
+    };
+    if !waits(restart, i, j) {
         return Err(Refusal::NoAlert);
     }
     if !holds(book, ticket) || restart.settled {
         return Err(Refusal::WrongTicket);
     }
-    Ok(restart)
+    Ok(())
 }
 
 // Carries one alert of the open restart.
@@ -101,10 +103,12 @@ pub(crate) fn alert(
     ensures answer { (m : Model) → result ≡ alert_tells (view book.old m) (numbered ticket) from to }
     ensures after { (m : Model) → view book.new m ≡ alert_book (view book.old m) (numbered ticket) from to }
 {
-    let mut restart = alerted(book, ticket, from, to)?;
+    alerted(book, ticket, from, to)?;
     let j = usize::from(to);
-    let moved = carry(&mut restart, book.clusters.as_slice(), usize::from(from), j);
-    book.restart = Some(restart);
+    let Some(restart) = &mut book.restart else {
+        return Err(Refusal::NoRestart);
+    };
+    let moved = carry(restart, book.clusters.as_slice(), usize::from(from), j);
     Ok(Carried {
         moved,
         place: told(restart.places[j]),
@@ -112,12 +116,14 @@ pub(crate) fn alert(
 }
 
 // The open restart, if the ticket is its own and it is settled, or is not, as asked.
-pub(crate) fn opened(book: &Book, ticket: TicketNumbers, settled: bool) -> Result<Restart, Refusal>
-    ensures opened { IfOk result (λ restart. book.now.restart ≡ Some restart) }
+pub(crate) fn opened(book: &Book, ticket: TicketNumbers, settled: bool) -> Result<&Restart, Refusal>
+    ensures opened { IfOk result (λ restart. book.now.restart ≡ Some restart.now) }
     ensures accepts { OnOk result (stage_refusal settled (bare book.now) (numbered ticket) ≡ None) }
     ensures refuses { IfErr result (λ why. stage_refusal settled (bare book.now) (numbered ticket) ≡ Some why) }
 {
-    let restart = book.restart.ok_or(Refusal::NoRestart)?;
+    let Some(restart) = &book.restart else {
+        return Err(Refusal::NoRestart);
+    };
     if holds(book, ticket) && restart.settled == settled {
         Ok(restart)
     } else {
@@ -130,9 +136,11 @@ pub(crate) fn finish(book: &mut Book, ticket: TicketNumbers) -> Result<(), Refus
     ensures answer { (m : Model) → result ≡ finish_tells (view book.old m) (numbered ticket) }
     ensures after { (m : Model) → view book.new m ≡ finish_book (view book.old m) (numbered ticket) }
 {
-    let mut restart = opened(book, ticket, false)?;
-    drain(&mut restart, book.clusters.as_slice());
+    opened(book, ticket, false)?;
+    let Some(restart) = &mut book.restart else {
+        return Err(Refusal::NoRestart);
+    };
+    drain(restart, book.clusters.as_slice());
     restart.settled = true;
-    book.restart = Some(restart);
     Ok(())
 }

@@ -1,14 +1,28 @@
 -- The search goes over a front of smaller keys, so it stands where `seek` stops; and what `seek` answers has its
 -- meaning in an ascending list, since every key behind a larger one is larger too.
-use Rattle.std.proofs.Common.{◌≡◌, ℕ, zero, suc, ◌<◌, true, true≢false, ◌⊎◌, inl, inr, List, [], ◌∷◌, length, get_or, Ok, Err, Result, sym, refl, ap, ◌∙◌, subst, arith}
+use Rattle.std.proofs.Common.{◌≡◌, ℕ, zero, suc, ◌<◌, true, false, true≢false, ◌⊎◌, inl, inr, List, [], ◌∷◌, length, get_or, Some, Option, Ok, Err, Result, sym, refl, ap, ◌∙◌, subst, arith}
 use Rattle.std.specs.declared.cmp.Ordering.{Ordering}
 use Rattle.std.specs.declared.cmp.Ordering.TheVariants.{Less, Equal, Greater}
-use Rattle.std.specs.Ordering.{ordering_reverse, is_lt, nat_cmp}
+use Rattle.std.specs.Ordering.{ordering_reverse, is_lt, is_eq, is_some_and, nat_cmp}
 use Rattle.std.proofs.lemmas.Bool.Decides.{nat_tests}
 use Rattle.std.specs.Cmp.{IsTotalOrder}
 use Rattle.std.proofs.lemmas.Bool.{and_parts}
 use Rattle.std.specs.List.{AllWithin}
 use Rattle.ordered.specs.Seek.{seek, stands, onward, leads, ascending, Sought}
+
+-- what the tests of an order say of the order itself
+pub equal_by : (o : Ordering) → is_eq o ≡ true → o ≡ Equal
+equal_by Less e = absurd (true≢false (sym e))
+equal_by Equal e = refl
+equal_by Greater e = absurd (true≢false (sym e))
+
+pub greater_by : (o : Ordering) (p : Option Ordering) → p ≡ Some o → is_some_and is_lt p ≡ false → is_eq o ≡ false → o ≡ Greater
+greater_by o p e lt eq = neither o (sym (ap (is_some_and is_lt) e) ∙ lt) eq
+  where
+    neither : (o : Ordering) → is_lt o ≡ false → is_eq o ≡ false → o ≡ Greater
+    neither Less l e = absurd (true≢false l)
+    neither Equal l e = absurd (true≢false e)
+    neither Greater l e = refl
 
 module _ {X K : Type 0} (cmp : K → K → Ordering) (key : X → K) where
   -- records below the key, that have it, and above it

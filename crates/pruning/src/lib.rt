@@ -13,6 +13,7 @@ use store::Store;
 mod cut;
 mod log;
 
+pub use book::STAYS;
 pub use log::{again, log_back, log_from};
 
 // Where clusters go back to: the place of each.

@@ -7,5 +7,6 @@ mod places;
 mod simulate;
 
 pub use alerts::{carry, drain};
+pub use book::STAYS;
 pub use places::{CLUSTERS, begin, told, told_places};
 pub use simulate::{bounds, trial};
